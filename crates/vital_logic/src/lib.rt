@@ -1,0 +1,6 @@
+//! The nine levels of IEEE 1164 and how they are written.
+#![tactic(auto)]
+
+mod level;
+
+pub use level::{Level, from_byte, to_byte};
