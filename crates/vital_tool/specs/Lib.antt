@@ -1,0 +1,4 @@
+pub mod Driver
+pub mod Words
+pub mod Given
+pub mod Run

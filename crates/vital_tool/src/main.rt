@@ -1,0 +1,7 @@
+//! The program: its words, the run that they ask for, and the one call that does it all.
+#![tactic(auto)]
+
+mod driver;
+mod words;
+
+fn main() {}
