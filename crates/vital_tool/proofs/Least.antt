@@ -5,7 +5,7 @@ use Rattle.std.proofs.lemmas.Bool.{cases_eq, cases_lt, eq-eqb, ne_eqb}
 use Rattle.std.proofs.lemmas.List.{take_more, append-nil}
 use Rattle.std.proofs.lemmas.Grind.{flat_map-append}
 use Rattle.vital_tool.specs.declared.driver.Transaction.{Transaction}
-use Rattle.vital_tool.specs.Driver.{Driver, RisesFrom, is_at, sooner, least, pending_times, next_time, advance}
+use Rattle.vital_tool.specs.Driver.{Driver, RisesFrom, is_at, sooner, least, pending_times, next_time, advance, pending_count}
 use Rattle.vital_tool.proofs.Rising.{rises_lower, first_is_least, none_at}
 
 sooner_assoc : (x : ℕ) (a b : Option ℕ) → sooner (Some x) (sooner a b) ≡ sooner (sooner (Some x) a) b
@@ -80,11 +80,6 @@ advance_rises time (x ∷ xs) h =
 pub all_rise_after : (time : ℕ) (ds : List Driver) → AllRise time ds → AllRise (time + 1) (map (advance time) ds)
 all_rise_after time [] h = tt
 all_rise_after time (d ∷ ds) h = (advance_rises time d.pending h.0, all_rise_after time ds h.1)
-
--- how many transactions are pending
-abbrev pub pending_count : List Driver → ℕ
-pending_count [] = 0
-pending_count (d ∷ ds) = length d.pending + pending_count ds
 
 kept-le : (p : Transaction → Bool) (xs : List Transaction) → length (filter p xs) ≤ length xs
 kept-le p [] = omega arith

@@ -1,3 +1,4 @@
 pub mod Rising
 pub mod Scanning
 pub mod Least
+pub mod Cycles

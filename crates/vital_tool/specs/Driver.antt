@@ -1,5 +1,5 @@
 -- The driver of a signal and its projected output waveform (IEEE 1076-1993, 8.4.1 and 12.6.1).
-use Rattle.std.specs.Prelude.{ℕ, ◌+◌, ◌-◌, ◌≤◌, Bool, true, false, not, ◌&&◌, ◌||◌, ◌==◌, nat_lt, min, List, [], ◌∷◌, ◌++◌, map, filter, find, Option, Some, None, if◌then◌else◌}
+use Rattle.std.specs.Prelude.{ℕ, ◌+◌, ◌-◌, ◌≤◌, Bool, true, false, not, ◌&&◌, ◌||◌, ◌==◌, nat_lt, min, List, [], ◌∷◌, ◌++◌, length, map, filter, find, Option, Some, None, if◌then◌else◌}
 use Rattle.std.specs.List.{flat_map}
 use Rattle.std.specs.Option.{option_map_or}
 use Rattle.vital_base.specs.declared.kind.Kind.{Kind}
@@ -83,3 +83,8 @@ advance time driver =
       current = option_map_or (λ x. x.value) (find (is_at time) driver.pending) driver.current;
       pending = filter (λ x. not (is_at time x)) driver.pending;
     }
+
+-- How many transactions are pending. A cycle takes at least one off.
+abbrev pub pending_count : List Driver → ℕ
+pending_count [] = 0
+pending_count (driver ∷ drivers) = length driver.pending + pending_count drivers
