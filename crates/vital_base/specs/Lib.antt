@@ -1,1 +1,4 @@
+pub mod Faults
+pub mod Shelves
+pub mod Sinks
 pub mod Times
