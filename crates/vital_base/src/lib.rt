@@ -2,17 +2,35 @@
 #![tactic(auto)]
 
 mod bytes;
+mod failed;
+mod file_shelf;
 mod kind;
 mod list;
+mod load;
+mod mem_shelf;
+mod mem_sink;
 mod name;
 mod ports;
+mod shelf;
+mod sink;
+mod std_sink;
 mod time;
 mod word;
+mod write;
 
 pub use bytes::Bytes;
+pub use failed::Failed;
+pub use file_shelf::FileShelf;
 pub use kind::Kind;
 pub use list::List;
+pub use load::{LONGEST_FILE, LoadError, read_file};
+pub use mem_shelf::{MemFile, MemShelf};
+pub use mem_sink::MemSink;
 pub use name::Name;
 pub use ports::{PortBit, Ports};
+pub use shelf::Shelf;
+pub use sink::Sink;
+pub use std_sink::StdSink;
 pub use time::{GREATEST_TIME, Time, TimeUnit, read_number};
 pub use word::Word;
+pub use write::{WriteFault, write_all};
