@@ -2,3 +2,4 @@ pub mod Rising
 pub mod Scanning
 pub mod Least
 pub mod Cycles
+pub mod Written

@@ -1,13 +1,13 @@
-ghost use Rattle.std.specs.Prelude.{◌≡◌, [], OnOk, not, map, filter, find, is_some};
+ghost use Rattle.std.specs.Prelude.{◌≡◌, [], OnOk, None, Some, if◌then◌else◌, not, map, filter, find, is_some};
 ghost use Rattle.std.specs.List.{list_all};
 ghost use Rattle.std.specs.Option.{option_map};
-ghost use Rattle.vital_tool.specs.Driver.{RisesFrom, is_at, is_before, with_new, sooner, least, pending_times, next_time, advance};
+ghost use Rattle.vital_tool.specs.Driver.{RisesFrom, same_level, is_at, is_before, with_new, sooner, least, pending_times, next_time, advance};
 
 use std::alloc::{AllocError, Global};
 use std::collections::VecDeque;
 use std::marker::Model;
 use vital_base::Time;
-use vital_logic::Level;
+use vital_logic::{Level, to_byte};
 
 /// A value that a driver takes at a time.
 #[derive(Clone, Copy, Debug, PartialEq, Eq)]
@@ -68,8 +68,23 @@ impl Driver {
         first_time(&self.pending)
     }
 
-    /// Lets a transaction at this time become the present value. No earlier one may be pending.
-    pub fn advance(&mut self, time: Time)
+    /// Lets a transaction at this time become the present value, and tells that value where it differs from the one before.
+    /// No earlier transaction may be pending.
+    pub fn advance(&mut self, time: Time) -> Option<Level>
+        requires { RisesFrom time self.old.pending }
+        ensures after { self.new ≡ advance time self.old }
+        ensures change { result ≡ (if same_level self.old.current self.new.current then None else Some self.new.current) }
+    {
+        let before = to_byte(self.current);
+        self.take_value(time);
+        if before == to_byte(self.current) {
+            None
+        } else {
+            Some(self.current)
+        }
+    }
+
+    fn take_value(&mut self, time: Time)
         requires { RisesFrom time self.old.pending }
         ensures { self.new ≡ advance time self.old }
     {
