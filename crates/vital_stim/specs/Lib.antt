@@ -1,0 +1,3 @@
+pub mod Parts
+pub mod PortForm
+pub mod Stimuli

@@ -1,0 +1,10 @@
+//! Reading a stimulus file: the times at which the ports of a unit take their values.
+#![tactic(auto)]
+
+mod fault;
+mod reading;
+mod stimuli;
+
+pub use fault::{StimError, StimFault, StimWhy};
+pub use reading::read_stim;
+pub use stimuli::{StimLine, Stimuli};
