@@ -1,1 +1,3 @@
 mod Rows
+pub mod FieldLemmas
+pub mod PortLemmas

@@ -1,3 +1,4 @@
 pub mod Parts
 pub mod PortForm
 pub mod Stimuli
+pub mod Entry

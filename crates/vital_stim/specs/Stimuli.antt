@@ -8,7 +8,7 @@ use Rattle.vital_base.specs.declared.ports.PortBit.{PortBit}
 use Rattle.vital_logic.specs.Levels.{level_of, byte_of}
 use Rattle.vital_logic.specs.declared.level.Level.{Level}
 use Rattle.vital_logic.specs.declared.level.Level.TheVariants.{U}
-use Rattle.vital_stim.specs.Parts.{lines_of, fields_of}
+use Rattle.vital_stim.specs.Parts.{lines_of, fields_of, is_passed_over}
 use Rattle.vital_stim.specs.PortForm.{is_port, folded}
 use Rattle.vital_stim.specs.declared.fault.StimWhy.{StimWhy}
 use Rattle.vital_stim.specs.declared.fault.StimWhy.TheVariants.{Line, Unit as UnknownUnit, TimeLarge, Value, TimeFalls}
@@ -54,15 +54,6 @@ stimulus_after latest fields = do
   stimulus ← stimulus_of fields
   if nat_lt stimulus.time latest then Err TimeFalls else Ok stimulus
 
-abbrev pub begins_with_hash : List ℕ → Bool
-begins_with_hash [] = false
-begins_with_hash (first ∷ others) = first == 35
-
--- A line is passed over where it has no field, or its first field begins with #.
-abbrev pub is_passed_over : List (List ℕ) → Bool
-is_passed_over [] = true
-is_passed_over (first ∷ others) = begins_with_hash first
-
 -- A fault of the line with this number.
 abbrev pub on_line : {A : Type 0} → ℕ → Result A StimWhy → Result A StimFault
 on_line number (Ok x) = Ok x
@@ -72,7 +63,7 @@ on_line number (Err why) = Err (record { line = number; why = why })
 abbrev pub stimuli_from : ℕ → ℕ → List (List ℕ) → Result (List Stimulus) StimFault
 stimuli_from number latest [] = Ok []
 stimuli_from number latest (line ∷ lines) =
-    if is_passed_over (fields_of line) then stimuli_from (number + 1) latest lines
+    if is_passed_over line then stimuli_from (number + 1) latest lines
     else (on_line number (stimulus_after latest (fields_of line)) >>= λ first.
     stimuli_from (number + 1) first.time lines >>= λ others.
     Ok (first ∷ others))

@@ -1,7 +1,10 @@
 //! Reading a stimulus file: the times at which the ports of a unit take their values.
 #![tactic(auto)]
 
+mod entry;
 mod fault;
+mod fields;
+mod port_form;
 mod reading;
 mod stimuli;
 
