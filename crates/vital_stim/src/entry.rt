@@ -35,7 +35,13 @@ fn entry_of<'a>(line: &'a [u8]) -> Result<Entry<'a>, StimWhy>
     ensures { stimulus_result result ≡ stimulus_of (fields_of line.now) }
 {
     let mut fields = Fields::new(line);
-    match (fields.next(), fields.next(), fields.next(), fields.next(), fields.next()) {
+    match (
+        fields.next(),
+        fields.next(),
+        fields.next(),
+        fields.next(),
+        fields.next(),
+    ) {
         (Some(digits), Some(letters), Some(port), Some(level), None) => {
             from_fields(digits, letters, port, level)
         }

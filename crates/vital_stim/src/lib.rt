@@ -1,6 +1,7 @@
 //! Reading a stimulus file: the times at which the ports of a unit take their values.
 #![tactic(auto)]
 
+mod builder;
 mod entry;
 mod fault;
 mod fields;

@@ -67,9 +67,7 @@ fn is_plain_decimal(digits: &[u8]) -> bool
 {
     match digits {
         [] => false,
-        [first, others @ ..] => {
-            all_digits(digits) && (*first != b'0' || others.is_empty())
-        }
+        [first, others @ ..] => { all_digits(digits) && (*first != b'0' || others.is_empty()) }
     }
 }
 
