@@ -1,0 +1,7 @@
+mod Rows
+pub mod FieldLemmas
+pub mod Positions
+pub mod PortLemmas
+pub mod NameLemmas
+pub mod BuilderLemmas
+pub mod Progress

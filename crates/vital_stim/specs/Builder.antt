@@ -1,0 +1,10 @@
+-- What a builder of stimuli holds.
+use Rattle.std.specs.Prelude.{◌≡◌, List, map}
+use Rattle.vital_stim.specs.Names.{texts}
+use Rattle.vital_stim.specs.Stimuli.{Stimulus, names_in, line_among}
+use Rattle.vital_stim.specs.declared.builder.StimuliBuilder.{StimuliBuilder}
+
+-- These stimuli were put, in this order.
+pub record Holds (builder : StimuliBuilder) (stimuli : List Stimulus) : Type 0 where
+  pub names : texts builder.names ≡ names_in stimuli
+  pub lines : builder.lines.items ≡ map (line_among (names_in stimuli)) stimuli

@@ -1,0 +1,6 @@
+pub mod Parts
+pub mod PortForm
+pub mod Stimuli
+pub mod Entry
+pub mod Names
+pub mod Builder

@@ -1,0 +1,107 @@
+-- The stimuli that a text states, or the first line with a fault.
+use Rattle.std.specs.Prelude.{◌≡◌, ℕ, ◌+◌, true, not, nat_lt, List, [], ◌∷◌, map, filter, Option, Some, None, Result, Ok, Err, if◌then◌else◌}
+use Rattle.std.specs.List.{position_or_len}
+use Rattle.std.specs.Option.{ok_or}
+use Rattle.std.specs.Str.{bytes_eq}
+use Rattle.vital_base.specs.Times.{number_of, unit_named, time_of}
+use Rattle.vital_base.specs.declared.ports.PortBit.{PortBit}
+use Rattle.vital_logic.specs.Levels.{level_of, byte_of}
+use Rattle.vital_logic.specs.declared.level.Level.{Level}
+use Rattle.vital_logic.specs.declared.level.Level.TheVariants.{U}
+use Rattle.vital_stim.specs.Parts.{lines_of, fields_of, is_passed_over}
+use Rattle.vital_stim.specs.PortForm.{is_port, folded}
+use Rattle.vital_stim.specs.declared.fault.StimWhy.{StimWhy}
+use Rattle.vital_stim.specs.declared.fault.StimWhy.TheVariants.{Line, Unit as UnknownUnit, TimeLarge, Value, TimeFalls}
+use Rattle.vital_stim.specs.declared.fault.StimFault.{StimFault}
+use Rattle.vital_stim.specs.declared.fault.StimError.{StimError}
+use Rattle.vital_stim.specs.declared.fault.StimError.TheVariants.{Fault, NoMemory}
+use Rattle.vital_stim.specs.declared.stimuli.StimLine.{StimLine}
+use Rattle.vital_stim.specs.declared.stimuli.Stimuli.{Stimuli}
+
+infixl 10 ◌>>=◌
+abbrev pub ◌>>=◌ : {A B E : Type 0} → Result A E → (A → Result B E) → Result B E
+(Ok x) >>= f = f x
+(Err e) >>= f = Err e
+
+-- What one line says: from this time on the port of this name has this value.
+pub record Stimulus : Type 0 where
+  pub time : ℕ
+  pub name : List ℕ
+  pub value : Level
+
+abbrev pub port_named : List ℕ → Option (List ℕ)
+port_named bytes = if is_port bytes then Some (folded bytes) else None
+
+-- The level that one byte writes.
+abbrev pub value_named : List ℕ → Option Level
+value_named (byte ∷ []) = level_of byte
+value_named bytes = None
+
+-- What the fields of a line say, or the first test that they fail.
+abbrev pub stimulus_of : List (List ℕ) → Result Stimulus StimWhy
+stimulus_of (digits ∷ letters ∷ port ∷ level ∷ []) = do
+  number ← ok_or (number_of digits) Line
+  name ← ok_or (port_named port) Line
+  unit ← ok_or (unit_named letters) UnknownUnit
+  time ← ok_or (time_of number unit) TimeLarge
+  value ← ok_or (value_named level) Value
+  Ok (record { time = time; name = name; value = value })
+stimulus_of fields = Err Line
+
+-- The same for a line that stands after others, the latest time of which is given.
+abbrev pub stimulus_after : ℕ → List (List ℕ) → Result Stimulus StimWhy
+stimulus_after latest fields = do
+  stimulus ← stimulus_of fields
+  if nat_lt stimulus.time latest then Err TimeFalls else Ok stimulus
+
+-- A fault of the line with this number.
+abbrev pub on_line : {A : Type 0} → ℕ → Result A StimWhy → Result A StimFault
+on_line number (Ok x) = Ok x
+on_line number (Err why) = Err (record { line = number; why = why })
+
+-- What the lines from this number on say, where this is the latest time before them.
+abbrev pub stimuli_from : ℕ → ℕ → List (List ℕ) → Result (List Stimulus) StimFault
+stimuli_from number latest [] = Ok []
+stimuli_from number latest (line ∷ lines) =
+    if is_passed_over line then stimuli_from (number + 1) latest lines
+    else (on_line number (stimulus_after latest (fields_of line)) >>= λ first.
+    stimuli_from (number + 1) first.time lines >>= λ others.
+    Ok (first ∷ others))
+
+-- The names in order of first sight, each of them once.
+abbrev pub first_sights : List (List ℕ) → List (List ℕ)
+first_sights [] = []
+first_sights (name ∷ names) = name ∷ filter (λ other. not (bytes_eq name other)) (first_sights names)
+
+-- The names of the ports that stimuli drive.
+abbrev pub names_in : List Stimulus → List (List ℕ)
+names_in stimuli = first_sights (map (λ stimulus. stimulus.name) stimuli)
+
+-- A port that is known by its name alone: an input, with the level U at first.
+abbrev pub input_port : List ℕ → PortBit
+input_port name = record { name = name; input = true; initial = byte_of U }
+
+-- A line speaks of a port by its place among the names.
+abbrev pub line_among : List (List ℕ) → Stimulus → StimLine
+line_among names stimulus = record {
+  time = stimulus.time;
+  port = position_or_len (bytes_eq stimulus.name) names;
+  value = stimulus.value;
+}
+
+-- Stimuli as they are handed on: the ports in order of first sight, and the lines in order.
+abbrev pub with_ports : List Stimulus → Stimuli
+with_ports stimuli = record {
+  ports = map input_port (names_in stimuli);
+  lines = map (line_among (names_in stimuli)) stimuli;
+}
+
+-- The stimuli of a text, or its first line with a fault and the first test that this line fails.
+abbrev pub stim : List ℕ → Result Stimuli StimFault
+stim text = stimuli_from 1 0 (lines_of text) >>= λ stimuli. Ok (with_ports stimuli)
+
+-- A call answered what a definition gives, unless memory ran out.
+abbrev pub Answers : {A : Type 0} → Result A StimError → Result A StimFault → Type 0
+Answers (Ok found) given = given ≡ Ok found
+Answers (Err (Fault fault)) given = given ≡ Err fault
+Answers (Err NoMemory) given = Unit {0}

@@ -1,0 +1,14 @@
+//! Reading a stimulus file: the times at which the ports of a unit take their values.
+#![tactic(auto)]
+
+mod builder;
+mod entry;
+mod fault;
+mod fields;
+mod port_form;
+mod reading;
+mod stimuli;
+
+pub use fault::{StimError, StimFault, StimWhy};
+pub use reading::read_stim;
+pub use stimuli::{StimLine, Stimuli};
