@@ -3,3 +3,4 @@ pub mod Scanning
 pub mod Least
 pub mod Cycles
 pub mod Written
+pub mod Sending

@@ -2,6 +2,7 @@
 #![tactic(auto)]
 
 mod driver;
+mod play;
 mod words;
 
 fn main() {}

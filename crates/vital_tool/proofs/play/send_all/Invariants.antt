@@ -1,0 +1,6 @@
+use Rattle.std.proofs.Common.{◌≡◌, drop, length}
+use Rattle.vital_tool.specs.Play.{sent}
+use Rattle.vital_tool.proofs.play.send_all.Given as goal
+
+abbrev pub invariant-loop-line : goal.invariant-loop-line
+invariant-loop-line l = sent (drop l.line-index l.lines) l.drivers ≡ sent l.lines l.fn.drivers
