@@ -1,5 +1,5 @@
 -- The cycles of a run in which each signal has one driver, of its own number.
-use Rattle.std.proofs.Common.{◌≡◌, ℕ, zero, suc, ◌+◌, ◌<◌, ◌≤◌, Bool, true, false, cond, leb, List, [], ◌∷◌, ◌++◌, length, map, Option, Some, None, refl, sym, ap, subst, ◌∙◌, append_assoc, inl, inr, arith}
+use Rattle.std.proofs.Common.{◌≡◌, ℕ, zero, suc, ◌+◌, ◌≤◌, cond, leb, List, [], ◌∷◌, ◌++◌, length, map, Option, Some, None, refl, sym, ap, ◌∙◌, append_assoc, inl, inr, arith}
 use Rattle.std.specs.Prelude.{slice_get, ◌==◌}
 use Rattle.std.specs.List.{filter_map}
 use Rattle.std.specs.Option.{option_map, option_map_or, option_and_then}
@@ -7,14 +7,10 @@ use Rattle.std.proofs.lemmas.Bool.{cases_Bool}
 use Rattle.std.proofs.lemmas.List.{length_push, length-map}
 use Rattle.vital_base.specs.declared.ports.PortBit.{PortBit}
 use Rattle.vital_logic.specs.declared.level.Level.{Level}
-use Rattle.vital_tool.specs.Driver.{Driver, RisesFrom, next_time, advance, pending_count}
-use Rattle.vital_tool.specs.Run.{Signal, Event, State, driven, value_of, events, after_cycle, due, cycles}
+use Rattle.vital_tool.specs.Driver.{currents, Driver, next_time, advance, pending_count}
+use Rattle.vital_tool.specs.Run.{Signal, State, driven, value_of, events, after_cycle, due, cycles}
 use Rattle.vital_tool.specs.Play.{port_signals, initial_level}
-use Rattle.vital_tool.proofs.Least.{AllRise, all_rise_next, all_rise_after, all_rise_lower, fewer_pending}
-
--- the present values of drivers
-abbrev pub currents : List Driver → List Level
-currents ds = map (λ d. d.current) ds
+use Rattle.vital_tool.proofs.Least.{fewer_pending}
 
 -- the state whose signals have the present values of their drivers
 abbrev pub state_of : ℕ → ℕ → List Driver → State
@@ -30,10 +26,10 @@ values_from r front [] (p ∷ ports) e = absurd (omega arith)
 values_from r front (d ∷ ds) [] e = absurd (omega arith)
 values_from r front (d ∷ ds) (p ∷ ports) e =
     let here : value_of r (front ++ d ∷ ds) (record { name = p.name; default = initial_level p; drivers = length front ∷ [] }) ≡ d.current =
-        ap (λ (o : Option Driver). driven r (initial_level p) (filter_map (λ (u : Unit {0}). option_map (λ (x : Driver). x.current) o) (tt ∷ []))) (slice_get_seam front d ds) in
+    ap (λ (o : Option Driver). driven r (initial_level p) (filter_map (λ (u : Unit {0}). option_map (λ (x : Driver). x.current) o) (tt ∷ []))) (slice_get_seam front d ds) in
     let regrouped : front ++ d ∷ ds ≡ (front ++ d ∷ []) ++ ds = sym (append_assoc front (d ∷ []) ds) in
     let there : map (value_of r (front ++ d ∷ ds)) (port_signals (length front + 1) ports) ≡ currents ds =
-        rw (regrouped, ← length_push front d) (values_from r (front ++ d ∷ []) ds ports (omega arith)) in
+    rw (regrouped, ← length_push front d) (values_from r (front ++ d ∷ []) ds ports (omega arith)) in
     rw (here, there) refl
 
 pub values_are : (r : List Level → Level) (ds : List Driver) (ports : List PortBit) → length ds ≡ length ports → map (value_of r ds) (port_signals 0 ports) ≡ currents ds
@@ -51,8 +47,8 @@ pub record Steps (most : ℕ) (r : List Level → Level) (ports : List PortBit) 
   pub left : ℕ
   pub enough : pending_count (map (advance time) ds) ≤ left
   pub next : cycles most r (port_signals 0 ports) until (state_of now delta ds)
-    ≡ events time (cond (time == now) (delta + 1) 0) (port_signals 0 ports) (currents ds) (currents (map (advance time) ds))
-    ++ cycles left r (port_signals 0 ports) until (state_of time (cond (time == now) (delta + 1) 0) (map (advance time) ds))
+      ≡ events time (cond (time == now) (delta + 1) 0) (port_signals 0 ports) (currents ds) (currents (map (advance time) ds))
+      ++ cycles left r (port_signals 0 ports) until (state_of time (cond (time == now) (delta + 1) 0) (map (advance time) ds))
 
 due_is_next : (until time : ℕ) (o : Option ℕ) → option_and_then (λ t. cond (leb t until) (Some t) None) o ≡ Some time → o ≡ Some time
 due_is_next until time None e = absurd cc
@@ -75,7 +71,7 @@ cycles_step (suc most) r ports until time now delta ds len enough e =
       left = most;
       enough = omega (arith, fewer_pending time ds (due_next until time ds e));
       next = ap (λ (o : Option ℕ). option_map_or rest o []) e
-        ∙ ap (λ (s : State). events s.now s.delta (port_signals 0 ports) (currents ds) s.values ++ cycles most r (port_signals 0 ports) until s) after;
+          ∙ ap (λ (s : State). events s.now s.delta (port_signals 0 ports) (currents ds) s.values ++ cycles most r (port_signals 0 ports) until s) after;
     }
 
 pub cycles_end : (most : ℕ) (r : List Level → Level) (signals : List Signal) (until : ℕ) (state : State) → due until state.drivers ≡ None → cycles most r signals until state ≡ []

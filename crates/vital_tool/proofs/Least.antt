@@ -5,7 +5,7 @@ use Rattle.std.proofs.lemmas.Bool.{cases_eq, cases_lt, eq-eqb, ne_eqb}
 use Rattle.std.proofs.lemmas.List.{take_more, append-nil}
 use Rattle.std.proofs.lemmas.Grind.{flat_map-append}
 use Rattle.vital_tool.specs.declared.driver.Transaction.{Transaction}
-use Rattle.vital_tool.specs.Driver.{Driver, RisesFrom, is_at, sooner, least, pending_times, next_time, advance, pending_count}
+use Rattle.vital_tool.specs.Driver.{Driver, RisesFrom, AllRise, is_at, sooner, least, pending_times, next_time, advance, pending_count}
 use Rattle.vital_tool.proofs.Rising.{rises_lower, first_is_least, none_at}
 
 sooner_assoc : (x : ℕ) (a b : Option ℕ) → sooner (Some x) (sooner a b) ≡ sooner (sooner (Some x) a) b
@@ -37,11 +37,6 @@ not_after_sooner : (time : ℕ) (a b : Option ℕ) → NotAfter time (sooner a b
 not_after_sooner time None b h = (tt, h)
 not_after_sooner time (Some a) None h = (h, tt)
 not_after_sooner time (Some a) (Some b) h = (omega arith, omega arith)
-
--- each driver's transactions rise from a time
-abbrev pub AllRise : ℕ → List Driver → Type 0
-AllRise low [] = Unit {0}
-AllRise low (d ∷ ds) = RisesFrom low d.pending × AllRise low ds
 
 rises_at : (low time : ℕ) (xs : List Transaction) → RisesFrom low xs → NotAfter time (least (map (λ x. x.time) xs)) → RisesFrom time xs
 rises_at low time [] h le = tt
@@ -124,4 +119,20 @@ fewer_pending time (d ∷ ds) e =
     elim (either_is time (least (pending_times d)) (next_time ds) (sym (least-append (pending_times d) (flat_map pending_times ds)) ∙ e)) [
       | inl here ↦ omega (arith, one_goes time d.pending here, count-le time ds)
       | inr there ↦ omega (arith, kept-le (λ x. not (is_at time x)) d.pending, fewer_pending time ds there)
+    ]
+
+rises_above : (low time : ℕ) (xs : List Transaction) → RisesFrom low xs → least (map (λ x. x.time) xs) ≡ Some time → low ≤ time
+rises_above low time [] h e = absurd cc
+rises_above low time (x ∷ xs) h e =
+    let first : Some x.time ≡ Some time = sym (first_is_least low x xs h) ∙ e in
+    let same : x.time ≡ time = cc in
+    omega (arith, same, h.0)
+
+-- the next time is not below the one that all transactions rise from
+pub next_is_above : (low time : ℕ) (ds : List Driver) → AllRise low ds → next_time ds ≡ Some time → low ≤ time
+next_is_above low time [] h e = absurd cc
+next_is_above low time (d ∷ ds) h e =
+    elim (either_is time (least (pending_times d)) (next_time ds) (sym (least-append (pending_times d) (flat_map pending_times ds)) ∙ e)) [
+      | inl here ↦ rises_above low time d.pending h.0 here
+      | inr there ↦ next_is_above low time ds h.1 there
     ]

@@ -4,3 +4,7 @@ pub mod Least
 pub mod Cycles
 pub mod Written
 pub mod Sending
+pub mod OneCycle
+pub mod Printing
+pub mod Parts
+pub mod CyclesLeft

@@ -6,8 +6,8 @@ use Rattle.std.specs.Str.{bytes_eq}
 use Rattle.std.proofs.lemmas.Bool.{cases_Bool, false≢true, le-leb}
 use Rattle.std.proofs.lemmas.List.Sums.{sum_by-cons}
 use Rattle.std.proofs.lemmas.Slice.Eq.{bytes_eq-Decides}
-use Rattle.vital_tool.specs.declared.words.UsageWhy.{UsageWhy}
-use Rattle.vital_tool.specs.declared.words.UsageWhy.TheVariants as why
+use Rattle.vital_report.specs.declared.line.UsageWhy.{UsageWhy}
+use Rattle.vital_report.specs.declared.line.UsageWhy.TheVariants as why
 use Rattle.vital_tool.specs.Words.{◌>>=◌, Key, stim, until, play_keys, parts, value_in, is_for, value_of, refusal_of, refusal, is_file_name, end_time}
 use Rattle.vital_tool.specs.Given.{ArePlayValues, once_refusal}
 use Rattle.vital_tool.specs.declared.words.PlayValues.{PlayValues}

@@ -1,14 +1,15 @@
 -- Stimuli that are sent to the drivers of their ports.
-use Rattle.std.proofs.Common.{◌≡◌, ℕ, zero, suc, ◌+◌, ◌<◌, ◌≤◌, List, [], ◌∷◌, length, get_or, set, drop, map, refl, sym, ap, ◌∙◌, zero-add, arith}
-use Rattle.std.proofs.lemmas.List.{drop_more}
+use Rattle.std.proofs.Common.{◌≡◌, ℕ, zero, suc, ◌+◌, ◌<◌, List, [], ◌∷◌, length, get_or, set, drop, map, refl, sym, ap, ◌∙◌, zero-add, arith}
+use Rattle.std.proofs.lemmas.List.{drop_more, length-map}
 use Rattle.vital_base.specs.declared.ports.PortBit.{PortBit}
 use Rattle.vital_base.specs.declared.kind.Kind.TheVariants.{Transport}
 use Rattle.vital_logic.specs.declared.level.Level.{Level}
 use Rattle.vital_stim.specs.declared.stimuli.StimLine.{StimLine}
-use Rattle.vital_tool.specs.Driver.{Driver, RisesFrom, with_new, send}
-use Rattle.vital_tool.specs.Play.{changed, sent, idle_drivers}
+use Rattle.vital_tool.specs.Driver.{AllRise, Driver, with_new, send}
+use Rattle.vital_stim.specs.declared.stimuli.Stimuli.{Stimuli}
+use Rattle.vital_tool.specs.Play.{changed, sent, idle_drivers, initial_level, after_initial_run, first_state}
+use Rattle.vital_tool.proofs.Cycles.{values_are}
 use Rattle.vital_tool.proofs.Rising.{with_new_rises}
-use Rattle.vital_tool.proofs.Least.{AllRise}
 
 set_is_changed : (ds : List Driver) (n : ℕ) (f : Driver → Driver) (d : Driver) → n < length ds → set ds n (f (get_or ds n d)) ≡ changed n f ds
 set_is_changed [] n f d lt = absurd (omega arith)
@@ -24,7 +25,7 @@ sends lines i none ds new d lt within assigned =
     let f : Driver → Driver = send 0 Transport line.value line.time in
     let old = get_or ds line.port d in
     let at_time : f old ≡ record { current = old.current; pending = with_new old.pending line.time line.value } =
-        ap (λ (t : ℕ). record { current = old.current; pending = with_new old.pending t line.value }) (zero-add line.time) in
+    ap (λ (t : ℕ). record { current = old.current; pending = with_new old.pending t line.value }) (zero-add line.time) in
     let after : set ds line.port new ≡ changed line.port f ds = ap (set ds line.port) (assigned ∙ sym at_time) ∙ set_is_changed ds line.port f d within in
     ap (sent (drop (i + 1) lines)) after ∙ sym (ap (λ (ls : List StimLine). sent ls ds) (drop_more lines i none lt))
 
@@ -63,3 +64,13 @@ changed_currents (suc n) value delay (d ∷ ds) = ap (λ (ls : List Level). d.cu
 pub sent_currents : (lines : List StimLine) (ds : List Driver) → map (λ d. d.current) (sent lines ds) ≡ map (λ d. d.current) ds
 sent_currents [] ds = refl
 sent_currents (line ∷ lines) ds = sent_currents lines (changed line.port (send 0 Transport line.value line.time) ds) ∙ changed_currents line.port line.value line.time ds
+
+-- the state after the initial run, for signals that each have one driver
+pub after_initial : (r : List Level → Level) (stimuli : Stimuli) → after_initial_run r stimuli ≡ first_state (sent stimuli.lines (idle_drivers stimuli.ports))
+after_initial r stimuli =
+    let idle = idle_drivers stimuli.ports in
+    let values = values_are r idle stimuli.ports (length-map stimuli.ports (λ p. record { current = initial_level p; pending = [] })) in
+    ap (λ (vs : List Level). record { now = 0; delta = 0; drivers = sent stimuli.lines idle; values = vs }) (values ∙ sym (sent_currents stimuli.lines idle))
+
+pub length-started : (stimuli : Stimuli) → length (sent stimuli.lines (idle_drivers stimuli.ports)) ≡ length stimuli.ports
+length-started stimuli = length-sent stimuli.lines (idle_drivers stimuli.ports) ∙ length-map stimuli.ports (λ p. record { current = initial_level p; pending = [] })

@@ -18,6 +18,15 @@ abbrev pub RisesFrom : ℕ → List Transaction → Type 0
 RisesFrom low [] = Unit {0}
 RisesFrom low (x ∷ later) = (low ≤ x.time) × RisesFrom (x.time + 1) later
 
+-- Each driver's transactions rise from a time.
+abbrev pub AllRise : ℕ → List Driver → Type 0
+AllRise low [] = Unit {0}
+AllRise low (driver ∷ drivers) = RisesFrom low driver.pending × AllRise low drivers
+
+-- The present values of drivers.
+abbrev pub currents : List Driver → List Level
+currents drivers = map (λ driver. driver.current) drivers
+
 -- Are two levels the same?
 abbrev pub same_level : Level → Level → Bool
 same_level a b = byte_of a == byte_of b

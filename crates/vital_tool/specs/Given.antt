@@ -6,8 +6,8 @@ use Rattle.vital_tool.specs.declared.words.JobError.{JobError}
 use Rattle.vital_tool.specs.declared.words.JobError.TheVariants.{Usage, NoMemory}
 use Rattle.vital_tool.specs.declared.words.UsageFault.{UsageFault}
 use Rattle.vital_tool.specs.declared.words.PlayValues.{PlayValues}
-use Rattle.vital_tool.specs.declared.words.UsageWhy.{UsageWhy}
-use Rattle.vital_tool.specs.declared.words.UsageWhy.TheVariants.{Twice, Value}
+use Rattle.vital_report.specs.declared.line.UsageWhy.{UsageWhy}
+use Rattle.vital_report.specs.declared.line.UsageWhy.TheVariants.{Twice, Value}
 use Rattle.vital_tool.specs.Words.{stim, until, value_of}
 
 -- These are the values of the keys of `play` that some words give.

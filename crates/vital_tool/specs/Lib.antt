@@ -3,3 +3,8 @@ pub mod Words
 pub mod Given
 pub mod Run
 pub mod Play
+pub mod Status
+pub mod Answer
+pub mod Writes
+pub mod Outcome
+pub mod PlayText

@@ -7,8 +7,8 @@ use Rattle.vital_logic.specs.declared.level.Level.TheVariants.{U}
 use Rattle.vital_base.specs.declared.kind.Kind.TheVariants.{Transport}
 use Rattle.vital_stim.specs.declared.stimuli.StimLine.{StimLine}
 use Rattle.vital_stim.specs.declared.stimuli.Stimuli.{Stimuli}
-use Rattle.vital_tool.specs.Driver.{Driver, send, pending_count}
-use Rattle.vital_tool.specs.Run.{Signal, Event, State, value_of, cycles}
+use Rattle.vital_tool.specs.Driver.{Driver, currents, send}
+use Rattle.vital_tool.specs.Run.{Signal, State, value_of}
 
 -- The level that a port has at first.
 abbrev pub initial_level : PortBit → Level
@@ -41,11 +41,9 @@ after_initial_run resolution stimuli = record {
   now = 0;
   delta = 0;
   drivers = sent stimuli.lines (idle_drivers stimuli.ports);
-  values = map (value_of resolution (idle_drivers stimuli.ports)) (port_signals 0 stimuli.ports)
+  values = map (value_of resolution (idle_drivers stimuli.ports)) (port_signals 0 stimuli.ports);
 }
 
--- The events of the run up to the end time.
-abbrev pub play_events : (List Level → Level) → Stimuli → ℕ → List Event
-play_events resolution stimuli until =
-    let state = after_initial_run resolution stimuli in
-    cycles (pending_count state.drivers) resolution (port_signals 0 stimuli.ports) until state
+-- The state before the first cycle, where each signal has the value of its one driver.
+abbrev pub first_state : List Driver → State
+first_state drivers = record { now = 0; delta = 0; drivers = drivers; values = currents drivers }

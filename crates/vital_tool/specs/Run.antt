@@ -3,7 +3,7 @@ use Rattle.std.specs.Prelude.{ℕ, zero, suc, ◌+◌, ◌==◌, nat_le, List, [
 use Rattle.std.specs.List.{filter_map}
 use Rattle.std.specs.Option.{option_map, option_map_or, option_and_then}
 use Rattle.vital_logic.specs.declared.level.Level.{Level}
-use Rattle.vital_tool.specs.Driver.{Driver, same_level, next_time, advance}
+use Rattle.vital_tool.specs.Driver.{Driver, same_level, next_time, advance, pending_count}
 
 -- A signal: the name that is printed for it, its value where nothing drives it, and the numbers of its drivers in order.
 pub record Signal : Type 0 where
@@ -72,3 +72,8 @@ cycles (suc most) resolution signals until state =
     events next.now next.delta signals state.values next.values ++ cycles most resolution signals until next)
     (due until state.drivers)
     []
+
+-- The events of a run from a state on, up to the end time, where nothing but the pending transactions is to come: each
+-- cycle takes at least one of them off, so there are no more cycles than transactions.
+abbrev pub run_events : (List Level → Level) → List Signal → ℕ → State → List Event
+run_events resolution signals until state = cycles (pending_count state.drivers) resolution signals until state

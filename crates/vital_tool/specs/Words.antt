@@ -8,8 +8,8 @@ use Rattle.vital_base.specs.Times.{number_of, unit_named, time_of}
 use Rattle.vital_tool.specs.declared.words.Job.{Job}
 use Rattle.vital_tool.specs.declared.words.Job.TheVariants.{Play}
 use Rattle.vital_tool.specs.declared.words.UsageFault.{UsageFault}
-use Rattle.vital_tool.specs.declared.words.UsageWhy.{UsageWhy}
-use Rattle.vital_tool.specs.declared.words.UsageWhy.TheVariants as why
+use Rattle.vital_report.specs.declared.line.UsageWhy.{UsageWhy}
+use Rattle.vital_report.specs.declared.line.UsageWhy.TheVariants as why
 
 infixl 10 ◌>>=◌
 abbrev pub ◌>>=◌ : {A B : Type 0} → Option A → (A → Option B) → Option B

@@ -2,7 +2,10 @@
 #![tactic(auto)]
 
 mod driver;
+mod lines;
 mod play;
+mod run;
+mod status;
 mod words;
 
 fn main() {}

@@ -8,6 +8,7 @@ ghost use Rattle.vital_tool.specs.declared.words.JobError.TheVariants.{NoMemory}
 
 use std::alloc::{AllocError, Global};
 use vital_base::{Name, Time, TimeUnit, Word, read_number};
+use vital_report::UsageWhy;
 
 /// What the words of the command line ask for.
 #[derive(Debug, Drop)]
@@ -43,23 +44,8 @@ impl From<AllocError> for JobError {
 /// The first word that is refused, counted from 1, and why.
 #[derive(Clone, Copy, Debug, PartialEq, Eq)]
 pub struct UsageFault {
-    pub word: usize,
+    pub word: u64,
     pub why: UsageWhy,
-}
-
-/// Why a word is refused.
-#[derive(Clone, Copy, Debug, PartialEq, Eq)]
-pub enum UsageWhy {
-    /// It is no command, or there is no word.
-    Command,
-    /// It has no `=`, or no key of the command before it.
-    Key,
-    /// Its key has come as often as it may.
-    Twice,
-    /// The key takes no such value.
-    Value,
-    /// A key that must come has not, at the end.
-    Missing,
 }
 
 /// How many bytes the name of a file may have.
@@ -87,7 +73,7 @@ fn play_job(alloc: Global, words: &[Word]) -> Result<Job, JobError>
 {
     let values = play_values(words).map_err(JobError::Usage)?;
     let missing = UsageFault {
-        word: words.len() + 2,
+        word: words.len() as u64 + 2,
         why: UsageWhy::Missing,
     };
     let (Some(stim), Some(until)) = (values.stim, values.until.and_then(end_time)) else {
@@ -117,7 +103,10 @@ fn play_values(words: &[Word]) -> Result<PlayValues<'_>, UsageFault>
     for (i, word) in words.iter().enumerate() {
         values = match with_word(values, word.as_slice()) {
             Ok(more) => more,
-            Err(why) => return Err(UsageFault { word: i + 2, why }),
+            Err(why) => return Err(UsageFault {
+                word: i as u64 + 2,
+                why,
+            }),
         };
     }
     Ok(values)

@@ -1,4 +1,4 @@
-use Rattle.std.proofs.Common.{◌≡◌, drop, length}
+use Rattle.std.proofs.Common.{◌≡◌, drop}
 use Rattle.vital_tool.specs.Play.{sent}
 use Rattle.vital_tool.proofs.play.send_all.Given as goal
 

@@ -1,0 +1,14 @@
+use Rattle.vital_tool.specs.Driver.{pending_count}
+use Rattle.vital_tool.specs.PlayText.{cycles_text}
+use Rattle.vital_tool.specs.Writes.{SinkState}
+use Rattle.vital_tool.proofs.CyclesLeft.{CyclesLeft}
+use Rattle.vital_tool.proofs.play.run_cycles.Given as goal
+
+abbrev pub invariant-loop-time : goal.invariant-loop-time
+invariant-loop-time g l =
+    let start : SinkState = record { told = g.K.Sink.bytes l.fn.sink; faults = g.K.Sink.faults l.fn.sink } in
+    let sink : SinkState = record { told = g.K.Sink.bytes l.sink; faults = g.K.Sink.faults l.sink } in
+    CyclesLeft l.ports l.until start (cycles_text l.ports l.fn.drivers l.until) l.now l.delta l.drivers sink l.report
+
+abbrev pub decreases-loop-time : goal.decreases-loop-time
+decreases-loop-time g l = pending_count l.drivers

@@ -1,0 +1,38 @@
+ghost use Rattle.std.specs.Prelude.{◌≡◌};
+ghost use Rattle.vital_tool.specs.Status.{number_of};
+
+/// How a run ended. Its number is the program's exit status.
+#[derive(Clone, Copy, Debug, PartialEq, Eq)]
+pub enum Status {
+    /// The answer ended well.
+    Done,
+    /// The words are wrong.
+    Usage,
+    /// A counted quantity passes its limit.
+    Limit,
+    /// The stimuli are wrong.
+    Stimulus,
+    /// The shelf failed.
+    ReadFault,
+    /// The sink failed.
+    WriteFault,
+    /// Memory ran out.
+    NoMemory,
+}
+
+impl Status {
+    /// The exit status.
+    pub fn number(self) -> u8
+        ensures { result ≡ number_of self }
+    {
+        match self {
+            Status::Done => 0,
+            Status::Usage => 2,
+            Status::Limit => 4,
+            Status::Stimulus => 8,
+            Status::ReadFault => 10,
+            Status::WriteFault => 11,
+            Status::NoMemory => 12,
+        }
+    }
+}
