@@ -25,7 +25,10 @@ const ROWS: [(&[u8], &str); 40] = [
     (b"5 ns a 1\n4 ns a 0", "2 TimeFalls"),
     // Passed over: comments, blanks and nothing; CR is a blank, and VT is none.
     (b"\n\r\n \t\n# a\n \t#5 ns a 2\r\n5 ns a 2", "6 Value"),
-    (b"#\n\r5\tns \r a\t\t1\r\n6 ns a 0 \r\n", "a:U 5000000 0 1;6000000 0 0;"),
+    (
+        b"#\n\r5\tns \r a\t\t1\r\n6 ns a 0 \r\n",
+        "a:U 5000000 0 1;6000000 0 0;",
+    ),
     (b"5 ns a #", "1 Value"),
     (b"5\x0bns a 1", "1 Line"),
     (b"5 ns\0 a 1", "1 Unit"),
@@ -35,7 +38,10 @@ const ROWS: [(&[u8], &str); 40] = [
     (b"0000000000000000005 fs a 1", "a:U 5 0 1;"),
     (b"00000000000000000005 fs a 1", "1 Line"),
     (b"5x ns a 1", "1 Line"),
-    (b"1152921504606846976 fs a 1", "a:U 1152921504606846976 0 1;"),
+    (
+        b"1152921504606846976 fs a 1",
+        "a:U 1152921504606846976 0 1;",
+    ),
     (b"1152921504606846977 fs a 1", "1 TimeLarge"),
     // Units and levels.
     (
@@ -46,7 +52,10 @@ const ROWS: [(&[u8], &str); 40] = [
     (b"1 ns a 01", "1 Value"),
     // Ports.
     (b"1 fs A_b 1\n2 fs a_B 0", "a_b:U 1 0 1;2 0 0;"),
-    (b"1 fs in 1\n1 fs a(10) 1\n1 fs in 0", "in:U a(10):U 1 0 1;1 1 1;1 0 0;"),
+    (
+        b"1 fs in 1\n1 fs a(10) 1\n1 fs in 0",
+        "in:U a(10):U 1 0 1;1 1 1;1 0 0;",
+    ),
     (b"1 fs a(0) 1", "a(0):U 1 0 1;"),
     (b"1 fs a(01) 1", "1 Line"),
     (b"1 fs a() 1", "1 Line"),
@@ -61,7 +70,10 @@ const ROWS: [(&[u8], &str); 40] = [
     (b"1 min _a 2", "1 Line"),
     (b"9999999999999999999 min a 2", "1 Unit"),
     (b"1 ns a 1\n0 ns a 2", "2 Value"),
-    (b"1 ns a 1\n9999999999999999999 ms a 2\n0 ns a 2", "2 TimeLarge"),
+    (
+        b"1 ns a 1\n9999999999999999999 ms a 2\n0 ns a 2",
+        "2 TimeLarge",
+    ),
 ];
 
 fn written(alloc: Global, stimuli: &Stimuli) -> Result<String, AllocError> {
