@@ -5,3 +5,4 @@ pub mod PortLemmas
 pub mod NameLemmas
 pub mod BuilderLemmas
 pub mod Progress
+pub mod Sound

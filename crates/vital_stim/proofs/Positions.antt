@@ -12,7 +12,7 @@ module _ {X : Type 0} (p : X → Bool) where
   any-step x xs false h = h ∙ grind (arith, nat_tests)
 
   -- there is one exactly where the first stands before the end
-  any-lt : (xs : List X) → list_any p xs ≡ nat_lt (position_or_len p xs) (length xs)
+  pub any-lt : (xs : List X) → list_any p xs ≡ nat_lt (position_or_len p xs) (length xs)
   any-lt [] = refl
   any-lt (x ∷ xs) = any-step x xs (p x) (any-lt xs)
 

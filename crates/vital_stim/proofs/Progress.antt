@@ -1,8 +1,7 @@
 -- How far the lines of a text have been read.
 use Rattle.std.proofs.Common.{◌≡◌, ℕ, ◌+◌, ◌<◌, ◌≤◌, true, false, List, [], ◌∷◌, ◌++◌, length, drop, get_or, refl, sym, ◌∙◌, ap, Result, Ok, Err, append_assoc, append-nil, suc, add-one, drop-cons, arith}
 use Rattle.std.proofs.Math.Seq.{drop-length}
-use Rattle.vital_stim.specs.Builder.{Holds}
-use Rattle.vital_stim.specs.Names.{names_count}
+use Rattle.vital_stim.specs.Builder.{Holds, port_count}
 use Rattle.vital_stim.specs.Parts.{lines_of, fields_of, is_passed_over}
 use Rattle.vital_stim.specs.Stimuli.{◌>>=◌, Stimulus, stimulus_after, stimuli_from, with_ports, stim}
 use Rattle.vital_stim.specs.declared.builder.StimuliBuilder.{StimuliBuilder}
@@ -20,7 +19,7 @@ pub record Progress (text : List ℕ) (builder : StimuliBuilder) (number latest 
   pub held : Holds builder stimuli
   pub so_far : stimuli_from 1 0 (lines_of text) ≡ after stimuli (stimuli_from (number + 1) latest (drop seen (lines_of text)))
   pub counted : number ≡ seen
-  pub few : names_count builder.names ≤ number
+  pub few : port_count builder ≤ number
 
 -- the line that is read next
 pub record IsNext (text : List ℕ) (seen : ℕ) (line : List ℕ) : Type 0 where
@@ -51,7 +50,7 @@ takes-step : (front : List Stimulus) (s : Stimulus) (read : Result (List Stimulu
 takes-step front s (Ok others) = ap Ok (sym (append_assoc front (s ∷ []) others))
 takes-step front s (Err fault) = refl
 
-pub takes : (text : List ℕ) (old new : StimuliBuilder) (number latest seen : ℕ) (line : List ℕ) (s : Stimulus) → Progress text old number latest seen → IsNext text seen line → is_passed_over line ≡ false → stimulus_after latest (fields_of line) ≡ Ok s → ((stimuli : List Stimulus) → Holds old stimuli → Holds new (stimuli ++ s ∷ [])) → names_count new.names ≤ names_count old.names + 1 → Progress text new (number + 1) s.time (seen + 1)
+pub takes : (text : List ℕ) (old new : StimuliBuilder) (number latest seen : ℕ) (line : List ℕ) (s : Stimulus) → Progress text old number latest seen → IsNext text seen line → is_passed_over line ≡ false → stimulus_after latest (fields_of line) ≡ Ok s → ((stimuli : List Stimulus) → Holds old stimuli → Holds new (stimuli ++ s ∷ [])) → port_count new ≤ port_count old + 1 → Progress text new (number + 1) s.time (seen + 1)
 takes text old new number latest seen line s so next unpassed says puts few = record {
   stimuli = so.stimuli ++ s ∷ [];
   held = puts so.stimuli so.held;

@@ -1,9 +1,10 @@
 -- The stimuli that a text states, or the first line with a fault.
-use Rattle.std.specs.Prelude.{◌≡◌, ℕ, ◌+◌, true, not, nat_lt, List, [], ◌∷◌, map, filter, Option, Some, None, Result, Ok, Err, if◌then◌else◌}
+use Rattle.std.specs.Prelude.{◌≡◌, ℕ, ◌+◌, ◌<◌, ◌≤◌, length, true, not, nat_lt, List, [], ◌∷◌, map, filter, Option, Some, None, Result, Ok, Err, if◌then◌else◌}
 use Rattle.std.specs.List.{position_or_len}
 use Rattle.std.specs.Option.{ok_or}
 use Rattle.std.specs.Str.{bytes_eq}
 use Rattle.vital_base.specs.Times.{number_of, unit_named, time_of}
+use Rattle.vital_base.specs.declared.time.TheConstants.{GREATEST_TIME}
 use Rattle.vital_base.specs.declared.ports.PortBit.{PortBit}
 use Rattle.vital_logic.specs.Levels.{level_of, byte_of}
 use Rattle.vital_logic.specs.declared.level.Level.{Level}
@@ -95,6 +96,11 @@ with_ports stimuli = record {
   ports = map input_port (names_in stimuli);
   lines = map (line_among (names_in stimuli)) stimuli;
 }
+
+-- A line of stimuli has a port that is there, and a time of at most 2^60 fs.
+pub record Fits (stimuli : Stimuli) (line : StimLine) : Type 0 where
+  pub there : line.port < length stimuli.ports
+  pub in_time : line.time ≤ GREATEST_TIME
 
 -- The stimuli of a text, or its first line with a fault and the first test that this line fails.
 abbrev pub stim : List ℕ → Result Stimuli StimFault

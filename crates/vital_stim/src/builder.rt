@@ -7,7 +7,7 @@ ghost use Rattle.vital_stim.specs.PortForm.{folded};
 ghost use Rattle.vital_stim.specs.Stimuli.{Stimulus, input_port, with_ports};
 ghost use Rattle.vital_stim.specs.Entry.{stimulus};
 ghost use Rattle.vital_stim.specs.Names.{texts, names_count, with_name};
-ghost use Rattle.vital_stim.specs.Builder.{Holds};
+ghost use Rattle.vital_stim.specs.Builder.{Holds, port_count};
 
 use crate::entry::Entry;
 use crate::stimuli::{StimLine, Stimuli};
@@ -30,7 +30,7 @@ impl StimuliBuilder {
     /// No stimuli, with room for so many lines.
     pub fn with_capacity(alloc: Global, lines: usize) -> Result<Self, AllocError>
         ensures held { IfOk result (λ builder. Holds builder []) }
-        ensures count { IfOk result (λ builder. names_count builder.names ≡ 0) }
+        ensures count { IfOk result (λ builder. port_count builder ≡ 0) }
     {
         Ok(StimuliBuilder {
             names: IndexSet::new(alloc),
@@ -41,9 +41,9 @@ impl StimuliBuilder {
 
     /// Puts what an entry says at the end.
     pub fn push(&mut self, alloc: Global, entry: &Entry<'_>) -> Result<(), AllocError>
-        requires { names_count self.old.names < 2 ^ 32 }
+        requires { port_count self.old < 2 ^ 32 }
         ensures held { OnOk result ((stimuli : List Stimulus) → Holds self.old stimuli → Holds self.new (stimuli ++ stimulus entry.now ∷ [])) }
-        ensures count { OnOk result (names_count self.new.names ≤ names_count self.old.names + 1) }
+        ensures count { OnOk result (port_count self.new ≤ port_count self.old + 1) }
     {
         fold_into(&mut self.folded, entry.port)?;
         let place = place_of(alloc, &mut self.names, &self.folded)?;

@@ -1,8 +1,10 @@
 //! The fields of a line.
 
-ghost use Rattle.std.specs.Prelude.{◌≡◌, position};
+ghost use Rattle.std.specs.Prelude.{◌≡◌, ℕ, List, position};
 ghost use Rattle.std.specs.Iterator.{YieldsFirstRef, item_count};
 ghost use Rattle.vital_stim.specs.Parts.{is_blank, fields_of, after_blanks, is_passed_over};
+
+use std::marker::Model;
 
 /// Whether a byte parts fields: a space, a tab or a CR.
 #[tactic(auto, unfolding(crate::specs::Parts::is_blank))]
@@ -22,15 +24,22 @@ pub fn is_passed_over(line: &[u8]) -> bool
     }
 }
 
-/// The fields of a line, from left to right: what stands between its blanks.
+/// The fields of a line that are left, from left to right: what stands between its blanks.
 #[derive(Drop)]
 pub struct Fields<'a> {
     rest: &'a [u8],
 }
 
+impl<'a> Model for Fields<'a> {
+    ghost Value = { List (List ℕ) };
+
+    ghost view = { λ fields. fields_of fields.rest.now };
+}
+
 impl<'a> Fields<'a> {
+    /// All fields of a line.
     pub fn new(line: &'a [u8]) -> Self
-        ensures { result.rest.now ≡ line.now }
+        ensures { result ≡ fields_of line.now }
     {
         Fields { rest: line }
     }
@@ -39,9 +48,9 @@ impl<'a> Fields<'a> {
 impl<'a> Iterator for Fields<'a> {
     type Item = &'a [u8];
 
-    ghost next_gives = { YieldsFirstRef (λ s. fields_of s.rest.now) };
+    ghost next_gives = { YieldsFirstRef (λ fields. fields) };
 
-    ghost remaining = { item_count (λ s. fields_of s.rest.now) };
+    ghost remaining = { item_count (λ fields. fields) };
 
     fn next(&mut self) -> Option<&'a [u8]> {
         let rest = after_blanks(self.rest);

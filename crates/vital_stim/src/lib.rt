@@ -12,3 +12,6 @@ mod stimuli;
 pub use fault::{StimError, StimFault, StimWhy};
 pub use reading::read_stim;
 pub use stimuli::{StimLine, Stimuli};
+
+#[cfg(test)]
+mod tests;

@@ -1,31 +1,14 @@
-use Rattle.std.proofs.Common.{rules, ◌∙◌, sym, length}
-use borrow.Author.Tests.{tests}
-use Rattle.std.proofs.lemmas.Iterator.Consumers.{YieldsList-at, YieldsList-turn, YieldsList-end}
-use Rattle.std.proofs.lemmas.Iterator.Splits.{YieldsList-from_slice_split}
-use Rattle.std.proofs.lemmas.List.{length_push}
-use Rattle.vital_stim.specs.Parts.{is_line_end}
-use Rattle.vital_stim.proofs.Progress.{next_is, passes, takes, fails, ends}
+use Rattle.vital_stim.proofs.Sound.{answers-if, all-few, all-fit, all-inputs, all-in_order}
 use Rattle.vital_stim.proofs.reading.read_stim.Goals as goal
 
-pub loop-line-preserved-then-is_passed_over : goal.loop-line-preserved-then-is_passed_over
-loop-line-preserved-then-is_passed_over c =
-    let turn = YieldsList-turn (YieldsList-at c.into_iter-line-iterator.ensures.into_iter_gives (YieldsList-from_slice_split _ is_line_end c.args.text.now c.split-line-items.ensures.rest c.split-line-items.ensures.done c.split-line-items.ensures.closure (λ x b q k. search (rules, tests)))) c.loop-line.yielded _ c.loop-line.yielded_by _ _ c.in-Some.line c.in-Some.is c.next.ensures.steps in
-    let next = next_is c.args.text.now (length c.loop-line.yielded) c.in-Some.line.now turn in
-    rw length_push (passes _ _ _ _ _ _ c.loop-line.invariant next (sym c.is_passed_over.ensures ∙ c.if-is_passed_over.true))
+pub returns-clause-fit : goal.returns-clause-fit
+returns-clause-fit c = answers-if _ c.read.result _ c.read.ensures (all-fit c.args.text.now)
 
-pub loop-line-preserved : goal.loop-line-preserved
-loop-line-preserved c =
-    let turn = YieldsList-turn (YieldsList-at c.into_iter-line-iterator.ensures.into_iter_gives (YieldsList-from_slice_split _ is_line_end c.args.text.now c.split-line-items.ensures.rest c.split-line-items.ensures.done c.split-line-items.ensures.closure (λ x b q k. search (rules, tests)))) c.loop-line.yielded _ c.loop-line.yielded_by _ _ c.in-Some.line c.in-Some.is c.next.ensures.steps in
-    let next = next_is c.args.text.now (length c.loop-line.yielded) c.in-Some.line.now turn in
-    rw length_push (takes _ _ _ _ _ _ _ _ c.loop-line.invariant next (sym c.is_passed_over.ensures ∙ c.if-is_passed_over.false) (sym c.in-Ok.ensures) c.in_ok-push-in-Ok.ensures.held c.in_ok-push-in-Ok.ensures.count)
+pub returns-clause-inputs : goal.returns-clause-inputs
+returns-clause-inputs c = answers-if _ c.read.result _ c.read.ensures (all-inputs c.args.text.now)
 
-pub returns-in-Err : goal.returns-in-Err
-returns-in-Err c =
-    let turn = YieldsList-turn (YieldsList-at c.into_iter-line-iterator.ensures.into_iter_gives (YieldsList-from_slice_split _ is_line_end c.args.text.now c.split-line-items.ensures.rest c.split-line-items.ensures.done c.split-line-items.ensures.closure (λ x b q k. search (rules, tests)))) c.loop-line.yielded _ c.loop-line.yielded_by _ _ c.in-Some.line c.in-Some.is c.next.ensures.steps in
-    let next = next_is c.args.text.now (length c.loop-line.yielded) c.in-Some.line.now turn in
-    fails _ _ _ _ _ _ _ c.loop-line.invariant next (sym c.is_passed_over.ensures ∙ c.if-is_passed_over.false) (sym c.in-Err.ensures)
+pub returns-clause-in_order : goal.returns-clause-in_order
+returns-clause-in_order c = answers-if _ c.read.result _ c.read.ensures (all-in_order c.args.text.now)
 
-pub returns : goal.returns
-returns c =
-    let end = YieldsList-end (YieldsList-at c.into_iter-line-iterator.ensures.into_iter_gives (YieldsList-from_slice_split _ is_line_end c.args.text.now c.split-line-items.ensures.rest c.split-line-items.ensures.done c.split-line-items.ensures.closure (λ x b q k. search (rules, tests)))) c.loop-line.yielded _ c.loop-line.yielded_by _ _ c.in-None.is c.next.ensures.steps in
-    ends _ _ _ _ _ _ c.loop-line.invariant end.1 (c.in_ok-build.ensures c.loop-line.invariant.stimuli c.loop-line.invariant.held)
+pub returns-clause-few : goal.returns-clause-few
+returns-clause-few c = answers-if _ c.read.result _ c.read.ensures (all-few c.args.text.now c.requires.short)

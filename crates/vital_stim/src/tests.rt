@@ -1,0 +1,118 @@
+ghost use Rattle.std.specs.Prelude.{◌≤◌, length};
+
+use crate::{StimError, Stimuli, read_stim};
+use std::alloc::{AllocError, Global};
+use std::test::Fail;
+use vital_logic::to_byte;
+
+/// Texts, and what they say: the ports with their first levels, and `time port level` for each line; or the line and
+/// the test that it fails.
+const ROWS: [(&[u8], &str); 40] = [
+    (b"", ""),
+    (
+        b"0 ps a 0\n0 ps b 1\n10 ps a 1\n20 ps b 1\n30 ps a Z\n",
+        "a:U b:U 0 0 0;0 1 1;10000 0 1;20000 1 1;30000 0 Z;",
+    ),
+    (
+        b"0 ns a 1\n5 ns a 1\n5 ns a 0",
+        "a:U 0 0 1;5000000 0 1;5000000 0 0;",
+    ),
+    (b"5 ns a", "1 Line"),
+    (b"5 ns a 1 1", "1 Line"),
+    (b"5 min a 1", "1 Unit"),
+    (b"9999999999999999999 ms a 1", "1 TimeLarge"),
+    (b"5 ns a 2", "1 Value"),
+    (b"5 ns a 1\n4 ns a 0", "2 TimeFalls"),
+    // Passed over: comments, blanks and nothing; CR is a blank, and VT is none.
+    (b"\n\r\n \t\n# a\n \t#5 ns a 2\r\n5 ns a 2", "6 Value"),
+    (
+        b"#\n\r5\tns \r a\t\t1\r\n6 ns a 0 \r\n",
+        "a:U 5000000 0 1;6000000 0 0;",
+    ),
+    (b"5 ns a #", "1 Value"),
+    (b"5\x0bns a 1", "1 Line"),
+    (b"5 ns\0 a 1", "1 Unit"),
+    (b"5 ns a\0 1", "1 Line"),
+    (b"5 ns \xff 1", "1 Line"),
+    // Digits.
+    (b"0000000000000000005 fs a 1", "a:U 5 0 1;"),
+    (b"00000000000000000005 fs a 1", "1 Line"),
+    (b"5x ns a 1", "1 Line"),
+    (
+        b"1152921504606846976 fs a 1",
+        "a:U 1152921504606846976 0 1;",
+    ),
+    (b"1152921504606846977 fs a 1", "1 TimeLarge"),
+    // Units and levels.
+    (
+        b"1 fs a u\n1 ps a X\n1 ns a w\n1 us a -\n1 ms a l",
+        "a:U 1 0 U;1000 0 X;1000000 0 W;1000000000 0 -;1000000000000 0 L;",
+    ),
+    (b"1 NS a 1", "1 Unit"),
+    (b"1 ns a 01", "1 Value"),
+    // Ports.
+    (b"1 fs A_b 1\n2 fs a_B 0", "a_b:U 1 0 1;2 0 0;"),
+    (
+        b"1 fs in 1\n1 fs a(10) 1\n1 fs in 0",
+        "in:U a(10):U 1 0 1;1 1 1;1 0 0;",
+    ),
+    (b"1 fs a(0) 1", "a(0):U 1 0 1;"),
+    (b"1 fs a(01) 1", "1 Line"),
+    (b"1 fs a() 1", "1 Line"),
+    (b"1 fs a(1 1", "1 Line"),
+    (b"1 fs a(1)b 1", "1 Line"),
+    (b"1 fs a (1) 1", "1 Line"),
+    (b"1 fs 1a 1", "1 Line"),
+    (b"1 fs _a 1", "1 Line"),
+    (b"1 fs a_(1) 1", "1 Line"),
+    (b"1 fs a__b 1", "1 Line"),
+    // Two tests fail: the earlier one counts.
+    (b"1 min _a 2", "1 Line"),
+    (b"9999999999999999999 min a 2", "1 Unit"),
+    (b"1 ns a 1\n0 ns a 2", "2 Value"),
+    (
+        b"1 ns a 1\n9999999999999999999 ms a 2\n0 ns a 2",
+        "2 TimeLarge",
+    ),
+];
+
+fn written(alloc: Global, stimuli: &Stimuli) -> Result<String, AllocError> {
+    let mut text = String::new(alloc);
+    for port in stimuli.ports.as_slice() {
+        for byte in port.name.as_slice() {
+            text.push(char::from(*byte))?;
+        }
+        text.push_str(if port.input { ":" } else { "?" })?;
+        text.push(char::from(port.initial))?;
+        text.push(' ')?;
+    }
+    for line in stimuli.lines.as_slice() {
+        let (time, port) = (line.time, line.port);
+        let value = char::from(to_byte(line.value));
+        text.push_str(format!(in alloc; "{time} {port} {value};")?.as_str())?;
+    }
+    Ok(text)
+}
+
+fn answer(alloc: Global, text: &[u8]) -> Result<String, AllocError>
+    requires { length text.now ≤ 16_777_216 }
+{
+    match read_stim(alloc, text, None) {
+        Ok(stimuli) => written(alloc, &stimuli),
+        Err(StimError::Fault(fault)) => {
+            let (line, why) = (fault.line, fault.why);
+            format!(in alloc; "{line} {why:?}")
+        }
+        Err(StimError::NoMemory) => Err(AllocError),
+    }
+}
+
+#[test]
+fn texts_say_what_they_should(rt: HostRuntime) -> Result<(), Fail> {
+    for (text, wanted) in ROWS {
+        assert!(rt; text.len() <= 16_777_216);
+        let found = answer(rt.alloc(), text)?;
+        assert_eq!(rt; found.as_str(), wanted);
+    }
+    Ok(())
+}
