@@ -1,13 +1,22 @@
 -- From what was written to what a run gives.
-use Rattle.std.proofs.Common.{◌≡◌, ◌≢◌, ℕ, List, [], ◌∷◌, ◌++◌, map, Option, Some, None, refl, sym, ap, arith}
+use Rattle.std.proofs.Common.{◌≡◌, ◌≢◌, ℕ, ◌+◌, ◌<◌, ◌≤◌, Bool, true, false, cond, leb, List, [], ◌∷◌, ◌++◌, length, map, Option, Some, None, Result, Ok, Err, refl, sym, ap, ◌∙◌, arith}
+use Rattle.std.specs.Prelude.{IfSome}
 use Rattle.std.specs.List.{flat_map}
+use Rattle.std.proofs.lemmas.Bool.{le-leb, lt-leb}
 use Rattle.std.proofs.lemmas.List.{append-nil}
+use Rattle.vital_base.specs.Shelves.{Files}
 use Rattle.vital_base.specs.Sinks.{appended}
+use Rattle.vital_base.specs.declared.load.TheConstants.{LONGEST_FILE}
+use Rattle.vital_report.specs.Lines.{refused_limit, refused_stimulus}
 use Rattle.vital_report.specs.Reporters.{ReporterState}
-use Rattle.vital_tool.specs.declared.status.Status.TheVariants.{ReadFault, WriteFault, NoMemory}
+use Rattle.vital_stim.specs.Stimuli.{stim}
+use Rattle.vital_stim.specs.declared.fault.StimFault.{StimFault}
+use Rattle.vital_stim.specs.declared.stimuli.Stimuli.{Stimuli}
+use Rattle.vital_tool.specs.declared.status.Status.TheVariants.{Limit, Stimulus, ReadFault, WriteFault, NoMemory}
+use Rattle.vital_tool.specs.declared.words.Play.{Play as PlayWords}
 use Rattle.vital_tool.specs.Run.{Event}
-use Rattle.vital_tool.specs.Answer.{Answer, text_of, event_line, text_of_event}
-use Rattle.vital_tool.specs.Outcome.{Prints, complete, output_failed, memory_failed}
+use Rattle.vital_tool.specs.Answer.{Answer, ◌>>=◌, text_of, event_line, text_of_event, refused, loaded, accepted, printed_why, ended, stimuli_answer, text_answer, play_answer}
+use Rattle.vital_tool.specs.Outcome.{Gives, Prints, complete, output_failed, memory_failed}
 use Rattle.vital_tool.specs.Writes.{SinkState, WritesAll, WritesPrefix}
 
 -- the text of the lines of events
@@ -48,3 +57,29 @@ prints_nothing answer old =
       rose = λ e. absurd cc;
       never_falls = omega arith;
     }
+
+-- what holds of all files holds of those that are told
+pub if_told : {F : Type 0} (o : Option F) (P : F → Type 0) → ((x : F) → P x) → IfSome o P
+if_told None P h = tt
+if_told (Some x) P h = h x
+
+-- the answer to a text with stimuli, and to one with a fault
+pub text_of_stimuli : (words : PlayWords) (text : List ℕ) (stimuli : Stimuli) → stim text ≡ Ok stimuli → text_answer words text ≡ stimuli_answer words stimuli
+text_of_stimuli words text stimuli e = ap (λ (r : Result Stimuli StimFault). ended (accepted words.stim r >>= λ s. Ok (stimuli_answer words s))) e
+
+pub text_of_fault : (words : PlayWords) (text : List ℕ) (fault : StimFault) → stim text ≡ Err fault → text_answer words text ≡ refused (refused_stimulus (printed_why fault.why) words.stim fault.line) Stimulus
+text_of_fault words text fault e = ap (λ (r : Result Stimuli StimFault). ended (accepted words.stim r >>= λ s. Ok (stimuli_answer words s))) e
+
+-- the answer where the file is there, where it is too long, and where it is missing
+pub play_of_text : (files : Files) (words : PlayWords) (text : List ℕ) → files words.stim ≡ Some text → length text ≤ LONGEST_FILE → play_answer files words ≡ text_answer words text
+play_of_text files words text e le =
+    ap (λ (o : Option (List ℕ)). ended (loaded words.stim o >>= λ t. Ok (text_answer words t))) e
+    ∙ ap (λ (b : Bool). ended (cond b (Ok text) (Err (refused (refused_limit words.stim) Limit)) >>= λ t. Ok (text_answer words t))) (le-leb (length text) LONGEST_FILE le)
+
+pub play_of_long : (files : Files) (words : PlayWords) (text : List ℕ) → files words.stim ≡ Some text → LONGEST_FILE < length text → play_answer files words ≡ refused (refused_limit words.stim) Limit
+play_of_long files words text e lt =
+    ap (λ (o : Option (List ℕ)). ended (loaded words.stim o >>= λ t. Ok (text_answer words t))) e
+    ∙ ap (λ (b : Bool). ended (cond b (Ok text) (Err (refused (refused_limit words.stim) Limit)) >>= λ t. Ok (text_answer words t))) (lt-leb (length text) LONGEST_FILE lt)
+
+pub play_of_none : (files : Files) (words : PlayWords) → files words.stim ≡ None → play_answer files words ≡ record { bytes = []; status = ReadFault }
+play_of_none files words e = ap (λ (o : Option (List ℕ)). ended (loaded words.stim o >>= λ t. Ok (text_answer words t))) e

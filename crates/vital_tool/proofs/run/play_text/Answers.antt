@@ -1,0 +1,12 @@
+use Rattle.std.proofs.Common.{sym, ap, ◌∙◌}
+use Rattle.vital_stim.specs.Stimuli.{stim}
+use Rattle.vital_tool.proofs.Printing.{text_of_fault}
+use Rattle.vital_tool.proofs.run.play_text.Goals as goal
+
+pub play_stimuli-requires-clause-ports : goal.play_stimuli-requires-clause-ports
+play_stimuli-requires-clause-ports g c = λ k d lt. (c.in-Ok.ensures.fit k d lt).there
+
+pub returns-in-Err-Fault : goal.returns-in-Err-Fault
+returns-in-Err-Fault g c =
+    let read = ap stim (sym c.as_slice.ensures) ∙ c.in-Err-Fault.ensures.answer in
+    rw (text_of_fault c.args.words.now c.args.text c.in-Err-Fault.fault read, ← c.printed_why.ensures) c.refuse.ensures
