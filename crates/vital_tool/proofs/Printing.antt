@@ -1,11 +1,12 @@
 -- From what was written to what a run gives.
-use Rattle.std.proofs.Common.{◌≡◌, ◌≢◌, ℕ, ◌+◌, ◌<◌, ◌≤◌, Bool, true, false, cond, leb, List, [], ◌∷◌, ◌++◌, length, map, Option, Some, None, Result, Ok, Err, refl, sym, ap, ◌∙◌, arith}
-use Rattle.std.specs.Prelude.{IfSome}
+use Rattle.std.proofs.Common.{◌≡◌, ◌≢◌, ℕ, ◌+◌, ◌<◌, ◌≤◌, Bool, true, false, cond, leb, List, [], ◌∷◌, ◌++◌, length, map, Option, Some, None, Result, Ok, Err, ◌⊎◌, inl, inr, refl, sym, ap, subst, ◌∙◌, arith}
+use Rattle.std.specs.Prelude.{IfSome, OnOk, OnErr}
 use Rattle.std.specs.List.{flat_map}
-use Rattle.std.proofs.lemmas.Bool.{le-leb, lt-leb}
+use Rattle.std.proofs.lemmas.Bool.{false≢true, le-leb, lt-leb}
 use Rattle.std.proofs.lemmas.List.{append-nil}
 use Rattle.vital_base.specs.Shelves.{Files}
-use Rattle.vital_base.specs.Sinks.{appended}
+use Rattle.vital_base.specs.Faults.{Rose}
+use Rattle.vital_base.specs.Sinks.{appended, AppendsPrefix}
 use Rattle.vital_base.specs.declared.load.TheConstants.{LONGEST_FILE}
 use Rattle.vital_report.specs.Lines.{refused_limit, refused_stimulus}
 use Rattle.vital_report.specs.Reporters.{ReporterState}
@@ -17,7 +18,7 @@ use Rattle.vital_tool.specs.declared.words.Play.{Play as PlayWords}
 use Rattle.vital_tool.specs.Run.{Event}
 use Rattle.vital_tool.specs.Answer.{Answer, ◌>>=◌, text_of, event_line, text_of_event, refused, loaded, accepted, printed_why, ended, stimuli_answer, text_answer, play_answer}
 use Rattle.vital_tool.specs.Outcome.{Gives, Prints, complete, output_failed, memory_failed}
-use Rattle.vital_tool.specs.Writes.{SinkState, WritesAll, WritesPrefix}
+use Rattle.vital_tool.specs.Writes.{SinkState, ready, Writes, WritesAll, WritesPrefix}
 
 -- the text of the lines of events
 pub text_of_events : (happened : List Event) → text_of (map event_line happened) ≡ flat_map text_of_event happened
@@ -83,3 +84,17 @@ play_of_long files words text e lt =
 
 pub play_of_none : (files : Files) (words : PlayWords) → files words.stim ≡ None → play_answer files words ≡ record { bytes = []; status = ReadFault }
 play_of_none files words e = ap (λ (o : Option (List ℕ)). ended (loaded words.stim o >>= λ t. Ok (text_answer words t))) e
+
+not_stopped : (reporter : ReporterState) (old new : ℕ) → reporter ≡ ready → ((reporter.stopped ≡ true) ⊎ Rose old new) → Rose old new
+not_stopped reporter old new is (inl stopped) = absurd (false≢true (sym (ap (λ (r : ReporterState). r.stopped) is) ∙ stopped))
+not_stopped reporter old new is (inr rose) = rose
+
+-- a line that a ready reporter puts
+pub put_is : {T E : Type 0} (r : Result T E) (text : List ℕ) (old new : SinkState) (before after : ReporterState) → before ≡ ready
+    → OnOk r (new.told ≡ appended old.told (before.held ++ text)) → OnOk r (after ≡ ready) → OnOk r (new.faults ≡ old.faults)
+    → OnErr r (AppendsPrefix old.told (before.held ++ text) new.told) → OnErr r ((before.stopped ≡ true) ⊎ Rose old.faults new.faults) → old.faults ≤ new.faults
+    → Writes r text old new after
+put_is (Ok x) text old new before after is told ready_again faults p q falls =
+    record { told = told ∙ ap (λ (b : ReporterState). appended old.told (b.held ++ text)) is; faults = faults; is_ready = ready_again }
+put_is (Err e) text old new before after is told ready_again faults p q falls =
+    record { told = subst (λ (b : ReporterState). AppendsPrefix old.told (b.held ++ text) new.told) is p; rose = not_stopped before old.faults new.faults is q; never_falls = falls }

@@ -18,5 +18,5 @@ pub fn put_line<K: Sink>(
         (record { told = K.bytes sink.old; faults = K.faults sink.old })
         (record { told = K.bytes sink.new; faults = K.faults sink.new }) report.new }
 {
-    Ok(())
+    report.put(sink, line)
 }

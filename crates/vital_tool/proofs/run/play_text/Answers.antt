@@ -8,5 +8,6 @@ play_stimuli-requires-clause-ports g c = λ k d lt. (c.in-Ok.ensures.fit k d lt)
 
 pub returns-in-Err-Fault : goal.returns-in-Err-Fault
 returns-in-Err-Fault g c =
-    let read = ap stim (sym c.as_slice.ensures) ∙ c.in-Err-Fault.ensures.answer in
+    let told = rw c.in-Err-Fault.field-0-is at c.in-Err-Fault.ensures.answer in
+    let read = ap stim (sym c.as_slice.ensures) ∙ told in
     rw (text_of_fault c.args.words.now c.args.text c.in-Err-Fault.fault read, ← c.printed_why.ensures) c.refuse.ensures
