@@ -27,16 +27,16 @@ pub struct StimuliBuilder {
 }
 
 impl StimuliBuilder {
-    /// No stimuli, with room for so many lines.
-    pub fn with_capacity(alloc: Global, lines: usize) -> Result<Self, AllocError>
-        ensures held { IfOk result (λ builder. Holds builder []) }
-        ensures count { IfOk result (λ builder. port_count builder ≡ 0) }
+    /// No stimuli yet. It takes no memory.
+    pub fn new(alloc: Global) -> Self
+        ensures held { Holds result [] }
+        ensures count { port_count result ≡ 0 }
     {
-        Ok(StimuliBuilder {
+        StimuliBuilder {
             names: IndexSet::new(alloc),
-            lines: Vec::with_capacity(alloc, lines)?,
+            lines: Vec::new(alloc),
             folded: Vec::new(alloc),
-        })
+        }
     }
 
     /// Puts what an entry says at the end.

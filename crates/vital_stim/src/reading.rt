@@ -35,14 +35,11 @@ pub fn read_stim(alloc: Global, text: &[u8], ports: Option<&Ports>) -> Result<St
     read(alloc, text)
 }
 
-/// How many bytes the shortest line with an entry has: `0 fs a 0` and LF.
-const SHORTEST_LINE: usize = 9;
-
 fn read(alloc: Global, text: &[u8]) -> Result<Stimuli, StimError>
     requires { length text.now ≤ 16_777_216 }
     ensures { Answers result (stim text.now) }
 {
-    let mut builder = StimuliBuilder::with_capacity(alloc, text.len() / SHORTEST_LINE + 1)?;
+    let mut builder = StimuliBuilder::new(alloc);
     let mut latest = 0;
     let mut number = 0;
     for line in text.split(|byte| *byte == b'\n') {
