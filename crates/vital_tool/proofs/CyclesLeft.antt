@@ -1,5 +1,5 @@
 -- What holds between two cycles of a run.
-use Rattle.std.proofs.Common.{◌≡◌, ℕ, ◌+◌, ◌-◌, ◌^◌, ◌<◌, ◌≤◌, cond, List, ◌++◌, length, map, Some, None, ◌⊎◌, inl, inr, refl, sym, ap, subst, ◌∙◌, arith}
+use Rattle.std.proofs.Common.{◌≡◌, ℕ, ◌+◌, ◌-◌, ◌^◌, ◌<◌, ◌≤◌, cond, List, ◌++◌, length, map, Some, None, ◌⊎◌, inl, inr, sym, ap, subst, ◌∙◌, arith}
 use Rattle.std.specs.Prelude.{◌==◌}
 use Rattle.std.specs.List.{flat_map}
 use Rattle.std.proofs.lemmas.Grind.{flat_map-append}
@@ -12,7 +12,7 @@ use Rattle.vital_tool.specs.Play.{port_signals}
 use Rattle.vital_tool.specs.PlayText.{cycle_text}
 use Rattle.vital_tool.specs.Answer.{text_of_event, unasked}
 use Rattle.vital_tool.specs.Writes.{SinkState, ready, WritesAll}
-use Rattle.vital_tool.proofs.Cycles.{state_of, Steps, cycles_step, cycles_end, due_next}
+use Rattle.vital_tool.proofs.Cycles.{state_of, cycles_step, cycles_end, due_next}
 use Rattle.vital_tool.proofs.Least.{all_rise_next, all_rise_after, all_rise_lower, next_is_above, fewer_pending}
 use Rattle.vital_tool.proofs.Parts.{Part, part_goes_on, part_ends}
 
@@ -46,8 +46,8 @@ comes ports until start whole now delta time ds sink reporter h e =
     let step = cycles_step h.most unasked ports until time now delta ds (sym h.one_each) h.enough e in
     let number : ℕ = cond (time == now) (delta + 1) 0 in
     let text : left_text h.most ports until now delta ds ≡ cycle_text time number ports ds ++ left_text step.left ports until time number (map (advance time) ds) =
-        ap (flat_map text_of_event) step.next
-        ∙ flat_map-append text_of_event (events time number (port_signals 0 ports) (map (λ d. d.current) ds) (map (λ d. d.current) (map (advance time) ds))) (cycles step.left unasked (port_signals 0 ports) until (state_of time number (map (advance time) ds))) in
+    ap (flat_map text_of_event) step.next
+    ∙ flat_map-append text_of_event (events time number (port_signals 0 ports) (map (λ d. d.current) ds) (map (λ d. d.current) (map (advance time) ds))) (cycles step.left unasked (port_signals 0 ports) until (state_of time number (map (advance time) ds))) in
     record {
       left = step.left;
       enough = step.enough;

@@ -1,5 +1,5 @@
 -- One cycle, port after port.
-use Rattle.std.proofs.Common.{◌≡◌, ℕ, zero, suc, ◌+◌, ◌<◌, ◌≤◌, Bool, true, false, cond, List, [], ◌∷◌, ◌++◌, length, get_or, set, take, drop, map, Option, Some, None, refl, sym, ap, ◌∙◌, append_assoc, inl, inr, arith}
+use Rattle.std.proofs.Common.{◌≡◌, ℕ, zero, suc, ◌+◌, ◌<◌, ◌≤◌, cond, List, [], ◌∷◌, ◌++◌, length, get_or, set, take, drop, map, Some, None, refl, sym, ap, ◌∙◌, append_assoc, inl, inr, arith}
 use Rattle.std.specs.List.{flat_map}
 use Rattle.std.proofs.lemmas.Bool.{cases_Bool}
 use Rattle.std.proofs.lemmas.List.{drop_more, take_more, take_all, drop_all, get_or_at, set_at, length-take-le, length-map, map-append, append-nil}
@@ -85,9 +85,9 @@ change_is time delta p d new v is told =
     elim (cases_Bool (same_level d.current (advance time d).current)) [
       | inl same ↦ let none : Some v ≡ None = rw (is, same) at told in absurd cc
       | inr other ↦
-        let some : Some v ≡ Some (advance time d).current = rw (is, other) at told in
-        let value : v ≡ (advance time d).current = cc in
-        rw (other, value) (sym (append-nil (bytes_of (event time delta p.name (advance time d).current))))
+          let some : Some v ≡ Some (advance time d).current = rw (is, other) at told in
+          let value : v ≡ (advance time d).current = cc in
+          rw (other, value) (sym (append-nil (bytes_of (event time delta p.name (advance time d).current))))
     ]
 
 pub no_change_is : (time delta : ℕ) (p : PortBit) (d new : Driver) → new ≡ advance time d → None ≡ cond (same_level d.current new.current) None (Some new.current) → [] ≡ port_text time delta p d

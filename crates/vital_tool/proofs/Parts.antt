@@ -1,19 +1,18 @@
 -- A text that calls write part by part.
-use Rattle.std.proofs.Common.{◌≡◌, ℕ, zero, suc, ◌+◌, ◌<◌, ◌≤◌, List, [], ◌∷◌, ◌++◌, length, take, drop, get_or, map, Option, Some, None, Result, Ok, Err, refl, sym, ap, subst, ◌∙◌, append_assoc, arith}
+use Rattle.std.proofs.Common.{◌≡◌, ℕ, ◌+◌, ◌<◌, ◌≤◌, List, [], ◌∷◌, ◌++◌, length, drop, get_or, map, Result, Ok, Err, refl, sym, ap, subst, ◌∙◌, append_assoc}
 use Rattle.std.specs.List.{flat_map}
 use Rattle.std.proofs.lemmas.Grind.{flat_map-append}
-use Rattle.std.proofs.lemmas.List.{append-nil, drop_more, drop_all}
+use Rattle.std.proofs.lemmas.List.{drop_more, drop_all}
 use Rattle.std.specs.Result.{IsErrAnd}
 use Rattle.std.proofs.lemmas.Result.{err_from_is_err_and}
 use Rattle.vital_base.specs.Faults.{Rose}
-use Rattle.vital_base.specs.Sinks.{appended, AppendsPrefix}
 use Rattle.vital_base.specs.declared.ports.PortBit.{PortBit}
 use Rattle.vital_logic.specs.declared.level.Level.{Level}
-use Rattle.vital_report.specs.Lines.{Said, version, init, end, bytes_of}
+use Rattle.vital_report.specs.Lines.{version, init, end, bytes_of}
 use Rattle.vital_report.specs.Reporters.{ReporterState}
 use Rattle.vital_tool.specs.Driver.{Driver, currents}
-use Rattle.vital_tool.specs.Run.{Signal, State, Event, run_events}
-use Rattle.vital_tool.specs.Play.{port_signals, initial_level, first_state}
+use Rattle.vital_tool.specs.Run.{run_events}
+use Rattle.vital_tool.specs.Play.{port_signals, first_state}
 use Rattle.vital_tool.specs.Answer.{text_of, init_lines, event_line, text_of_event, run_lines, unasked}
 use Rattle.vital_tool.specs.PlayText.{cycles_text}
 use Rattle.vital_tool.specs.Writes.{SinkState, ready, Writes, WritesAll, WritesPrefix}

@@ -1,5 +1,5 @@
 -- From what was written to what a run gives.
-use Rattle.std.proofs.Common.{◌≡◌, ◌≢◌, ℕ, ◌+◌, ◌<◌, ◌≤◌, Bool, true, false, cond, leb, List, [], ◌∷◌, ◌++◌, length, map, Option, Some, None, Result, Ok, Err, ◌⊎◌, inl, inr, refl, sym, ap, subst, ◌∙◌, arith}
+use Rattle.std.proofs.Common.{◌≡◌, ◌≢◌, ℕ, ◌<◌, ◌≤◌, Bool, true, cond, List, [], ◌∷◌, ◌++◌, length, map, Option, Some, None, Result, Ok, Err, ◌⊎◌, inl, inr, refl, sym, ap, subst, ◌∙◌, arith}
 use Rattle.std.specs.Prelude.{IfSome, OnOk, OnErr}
 use Rattle.std.specs.List.{flat_map}
 use Rattle.std.proofs.lemmas.Bool.{false≢true, le-leb, lt-leb}
@@ -17,7 +17,7 @@ use Rattle.vital_tool.specs.declared.status.Status.TheVariants.{Limit, Stimulus,
 use Rattle.vital_tool.specs.declared.words.Play.{Play as PlayWords}
 use Rattle.vital_tool.specs.Run.{Event}
 use Rattle.vital_tool.specs.Answer.{Answer, ◌>>=◌, text_of, event_line, text_of_event, refused, loaded, accepted, printed_why, ended, stimuli_answer, text_answer, play_answer}
-use Rattle.vital_tool.specs.Outcome.{Gives, Prints, complete, output_failed, memory_failed}
+use Rattle.vital_tool.specs.Outcome.{Prints, complete, output_failed, memory_failed}
 use Rattle.vital_tool.specs.Writes.{SinkState, ready, Writes, WritesAll, WritesPrefix}
 
 -- the text of the lines of events

@@ -85,7 +85,14 @@ fn put_inits<K: Sink>(
 {
     for i in 0..ports.len() {
         let value = drivers[i].current();
-        put_line(&Line::Init { name: &ports[i].name, value }, report, sink)?;
+        put_line(
+            &Line::Init {
+                name: &ports[i].name,
+                value,
+            },
+            report,
+            sink,
+        )?;
     }
     Ok(())
 }
@@ -178,7 +185,16 @@ fn run_port<K: Sink>(
         None => Ok(()),
         Some(value) => {
             let name = &port.name;
-            put_line(&Line::Event { time, delta, name, value }, report, sink)
+            put_line(
+                &Line::Event {
+                    time,
+                    delta,
+                    name,
+                    value,
+                },
+                report,
+                sink,
+            )
         }
     }
 }

@@ -50,7 +50,10 @@ pub fn run<S: Shelf, K: Sink>(
     match read_job(alloc, words) {
         Ok(Job::Play(words)) => run_play(alloc, &words, shelf, &mut report, sink),
         Err(JobError::Usage(fault)) => {
-            let line = Line::RefusedUsage { word: fault.word, why: fault.why };
+            let line = Line::RefusedUsage {
+                word: fault.word,
+                why: fault.why,
+            };
             refuse(&line, Status::Usage, &mut report, sink)
         }
         Err(JobError::NoMemory) => Status::NoMemory,

@@ -1,4 +1,3 @@
-use Rattle.std.proofs.Common.{◌≡◌, List, ◌++◌, ap, subst, sym, ◌∙◌}
 use Rattle.vital_report.specs.Lines.{bytes_of, said}
 use Rattle.vital_tool.specs.Writes.{SinkState}
 use Rattle.vital_tool.proofs.Printing.{put_is}

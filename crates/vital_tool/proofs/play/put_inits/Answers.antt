@@ -1,4 +1,4 @@
-use Rattle.std.proofs.Common.{◌≡◌, ◌<◌, ◌+◌, length, get_or, drop, arith}
+use Rattle.std.proofs.Common.{◌<◌, ◌+◌, length, get_or, drop, arith}
 use Rattle.vital_report.specs.Lines.{init, bytes_of}
 use Rattle.vital_tool.specs.Driver.{currents}
 use Rattle.vital_tool.specs.Writes.{SinkState}

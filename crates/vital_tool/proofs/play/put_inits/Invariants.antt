@@ -10,5 +10,5 @@ invariant-loop-i g l =
     let now : SinkState = record { told = g.K.Sink.bytes l.sink; faults = g.K.Sink.faults l.sink } in
     record {
       is_ready : l.report ≡ ready;
-      part : Part start (inits_from 0 l.ports (currents l.drivers)) (inits_from l.i (drop l.i l.ports) (currents (drop l.i l.drivers))) now
+      part : Part start (inits_from 0 l.ports (currents l.drivers)) (inits_from l.i (drop l.i l.ports) (currents (drop l.i l.drivers))) now;
     }

@@ -1,4 +1,4 @@
-use Rattle.std.proofs.Common.{◌≡◌, ◌<◌, ◌+◌, length, get_or, drop, ap, ◌∙◌, arith}
+use Rattle.std.proofs.Common.{◌<◌, ◌+◌, length, get_or, drop, ap, ◌∙◌, arith}
 use Rattle.vital_tool.specs.Driver.{advance}
 use Rattle.vital_tool.specs.PlayText.{port_text}
 use Rattle.vital_tool.specs.Writes.{SinkState}

@@ -11,5 +11,5 @@ invariant-loop-i g l =
     record {
       is_ready : l.report ≡ ready;
       advanced : AdvancedBefore l.time l.i l.fn.drivers l.drivers;
-      part : Part start (text_from l.time l.delta 0 l.ports l.fn.drivers) (text_from l.time l.delta l.i (drop l.i l.ports) (drop l.i l.fn.drivers)) now
+      part : Part start (text_from l.time l.delta 0 l.ports l.fn.drivers) (text_from l.time l.delta l.i (drop l.i l.ports) (drop l.i l.fn.drivers)) now;
     }

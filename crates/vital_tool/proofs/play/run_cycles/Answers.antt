@@ -1,4 +1,4 @@
-use Rattle.std.proofs.Common.{◌≡◌, ◌+◌, cond, map, sym}
+use Rattle.std.proofs.Common.{◌+◌, cond, map, sym}
 use Rattle.std.specs.Prelude.{◌==◌}
 use Rattle.vital_tool.specs.Driver.{advance}
 use Rattle.vital_tool.specs.PlayText.{cycle_text, cycles_text}

@@ -10,4 +10,5 @@ pub returns-in-Err-Fault : goal.returns-in-Err-Fault
 returns-in-Err-Fault g c =
     let told = rw c.in-Err-Fault.field-0-is at c.in-Err-Fault.ensures.answer in
     let read = ap stim (sym c.as_slice.ensures) ∙ told in
-    rw (text_of_fault c.args.words.now c.args.text c.in-Err-Fault.fault read, ← c.printed_why.ensures) c.refuse.ensures
+    let why = rw c.in-Err-Fault.field-0-is at c.printed_why.ensures in
+    rw (text_of_fault c.args.words.now c.args.text c.in-Err-Fault.fault read) (rw (c.in-Err-Fault.field-0-is, why) at c.refuse.ensures)

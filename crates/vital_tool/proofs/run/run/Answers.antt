@@ -9,4 +9,4 @@ pub returns-in-Err-Usage-clause-answered : goal.returns-in-Err-Usage-clause-answ
 returns-in-Err-Usage-clause-answered g c = if_told _ _ (λ files.
     let told = rw c.in-Err-Usage.field-0-is at c.in-Err-Usage.ensures in
     let same = ap (job_answer files) (ap job (sym c.deref.ensures.value) ∙ told) in
-    subst (λ (a : Answer). Gives a c.refuse.result (g.K.Sink.bytes c.args.sink.now) (g.K.Sink.bytes c.refuse.new.sink)) (sym same) c.refuse.ensures.gives)
+    subst (λ (a : Answer). Gives a c.refuse.result (g.K.Sink.bytes c.args.sink.now) (g.K.Sink.bytes c.refuse.new.sink)) (sym same) (rw c.in-Err-Usage.field-0-is at c.refuse.ensures.gives))
