@@ -1,0 +1,10 @@
+pub mod Bytes
+pub mod Delimiters
+pub mod Firsts
+pub mod Forms
+pub mod Kinds
+pub mod Nesting
+pub mod Outcome
+pub mod Pieces
+pub mod Places
+pub mod ReservedWords
