@@ -7,4 +7,5 @@ pub mod Nesting
 pub mod Outcome
 pub mod Pieces
 pub mod Places
+pub mod Reading
 pub mod ReservedWords

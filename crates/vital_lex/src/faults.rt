@@ -1,5 +1,10 @@
 //! How a text is refused.
 
+ghost use Rattle.std.specs.Prelude.{◌≡◌};
+ghost use Rattle.vital_lex.specs.declared.faults.LexError.TheVariants.{NoMemory};
+
+use std::alloc::AllocFailed;
+
 /// Why nothing fits at an offset.
 #[derive(Clone, Copy, Debug, PartialEq, Eq)]
 pub enum Why {
@@ -27,4 +32,12 @@ pub enum LexError {
     Text(TextFault),
     /// There was no memory for the tokens.
     NoMemory,
+}
+
+impl<T: Drop> From<AllocFailed<T>> for LexError {
+    ghost from_gives = { λ _ e. e ≡ NoMemory };
+
+    fn from(_error: AllocFailed<T>) -> Self {
+        LexError::NoMemory
+    }
 }

@@ -1,9 +1,12 @@
 //! Reading a whole text.
 
-ghost use Rattle.std.specs.Prelude.{◌≡◌, ◌<◌, ◌≤◌, ◌×◌, ℕ, List, length, Result, OnOk, IfOk};
-ghost use Rattle.vital_lex.specs.Outcome.{Gives, IsOutcome, IsRefused};
+ghost use Rattle.std.specs.Prelude.{◌≡◌, ◌<◌, ◌≤◌, ℕ, List, length, Result, OnOk, IfOk};
+ghost use Rattle.vital_lex.specs.Forms.{is_separator};
+ghost use Rattle.vital_lex.specs.Nesting.{nesting_after};
+ghost use Rattle.vital_lex.specs.Outcome.{Gives, IsOutcome, IsRefused, why_at};
+ghost use Rattle.vital_lex.specs.Pieces.{IsLexeme, NoneFits};
 
-use std::alloc::{AllocFailed, Global};
+use std::alloc::Global;
 
 use crate::ends::separator_end;
 use crate::faults::{LexError, TextFault, Why};
@@ -66,6 +69,12 @@ impl Lexer<'_> {
 
     /// Takes the lexeme that was found at `at`, if it is within the limits.
     fn take(&mut self, found: Found) -> Result<(), LexError>
+        requires reading { IsReading self.old }
+        requires separated { NoneFits is_separator self.old.text.now self.old.at }
+        requires lexeme { IsLexeme self.old.before self.old.text.now self.old.at found.end found.kind }
+        ensures same { (self.new.text.now ≡ self.old.text.now) × (self.new.room ≡ self.old.room) }
+        ensures ok { OnOk result (IsReading self.new × (self.old.at < self.new.at)) }
+        ensures refused { (fault : TextFault) → result ≡ Err (LexError.Text fault) → IsRefused self.old.text.now self.old.room fault }
     {
         let offset = self.at as u32;
         if self.tokens.len() == self.room as usize {
@@ -88,6 +97,11 @@ impl Lexer<'_> {
 
     /// Takes the piece at `at`.
     fn advance(&mut self) -> Result<(), LexError>
+        requires reading { IsReading self.old }
+        requires inside { self.old.at < length self.old.text.now }
+        ensures same { (self.new.text.now ≡ self.old.text.now) × (self.new.room ≡ self.old.room) }
+        ensures ok { OnOk result (IsReading self.new × (self.old.at < self.new.at)) }
+        ensures refused { (fault : TextFault) → result ≡ Err (LexError.Text fault) → IsRefused self.old.text.now self.old.room fault }
     {
         if let Some(end) = separator_end(self.text, self.at) {
             self.at = end;
