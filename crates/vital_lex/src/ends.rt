@@ -1,6 +1,7 @@
 //! How far the separators and lexemes of a text go.
 
-ghost use Rattle.std.specs.Prelude.{◌≡◌, ◌+◌, ◌<◌, ◌≤◌, ◌≢◌, ℕ, true, length, slice_index, MatchOption};
+ghost use Rattle.std.specs.Prelude.{◌≡◌, ◌+◌, ◌<◌, ◌≤◌, ◌==◌, not, true, length, slice_index, slice_range, MatchOption};
+ghost use Rattle.std.specs.List.{list_all};
 ghost use Rattle.vital_lex.specs.Bytes as spec;
 ghost use Rattle.vital_lex.specs.Forms.{is_basic_identifier, is_integer, is_number, is_separator, continues, closes};
 ghost use Rattle.vital_lex.specs.Pieces.{IsLongest, NoneFits};
@@ -89,7 +90,7 @@ pub fn quoted_end(text: &[u8], at: usize, mark: u8) -> Option<usize>
 fn line_end(text: &[u8], at: usize) -> usize
     requires { at ≤ length text.now }
     ensures within { (at ≤ result) × (result ≤ length text.now) }
-    ensures passed { (k : ℕ) → at ≤ k → k < result → slice_index text.now k ≢ 10 }
+    ensures passed { list_all (λ b. not (b == 10)) (slice_range text.now at result) ≡ true }
     ensures stops { result < length text.now → slice_index text.now result ≡ 10 }
 {
     let mut end = at;

@@ -1,0 +1,5 @@
+pub mod Numbers
+pub mod Quoted
+pub mod Ranges
+pub mod Separators
+pub mod Underlined
