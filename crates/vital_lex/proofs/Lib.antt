@@ -3,3 +3,4 @@ pub mod Quoted
 pub mod Ranges
 pub mod Separators
 pub mod Underlined
+pub mod WordTables

@@ -172,8 +172,8 @@ fn is_in_lower_case(word: &[u8], lower: &[u8]) -> bool
     if word.len() != lower.len() {
         return false;
     }
-    for (b, l) in word.iter().zip(lower) {
-        if lower_case(*b) != *l {
+    for i in 0..lower.len() {
+        if lower_case(word[i]) != lower[i] {
             return false;
         }
     }
