@@ -1,6 +1,9 @@
+pub mod FirstBytes
+pub mod FoundLexemes
 pub mod Numbers
 pub mod Quoted
 pub mod Ranges
 pub mod Separators
+pub mod Tables
 pub mod Underlined
 pub mod WordTables

@@ -1,15 +1,16 @@
 -- Reserved words in a table, found by their first letter.
-use Rattle.std.proofs.Common.{◌≡◌, ℕ, ◌<◌, Bool, true, false, cond, ◌&&◌, ◌==◌, eqb, List, [], ◌∷◌, length, map, get_or, refl, ap, sym, ◌∙◌, arith, Option, Some, None, unwrap_or}
+use Rattle.std.proofs.Common.{◌≡◌, ℕ, ◌<◌, true, false, not, ◌==◌, List, [], ◌∷◌, length, map, get_or, refl, ap, sym, ◌∙◌, arith, unwrap_or}
 use Rattle.std.specs.Str.{bytes_eq}
-use Rattle.std.specs.List.{list_all, list_any}
-use Rattle.std.proofs.lemmas.Bool.{false_from_ne_true, false≢true, and_parts, and_left, ne_eqb, cond-false}
+use Rattle.std.specs.List.{list_any}
+use Rattle.std.proofs.lemmas.Bool.{false_from_ne_true}
 use Rattle.std.proofs.lemmas.List.{ext_get_or, get_or-map, length-map}
 use Rattle.std.proofs.lemmas.Slice.Eq.{bytes_eq-Decides}
 use Rattle.vital_lex.specs.Bytes.{lower_case}
-use Rattle.vital_lex.specs.Forms.{begins, kind_in, word_kind}
+use Rattle.vital_lex.specs.Forms.{kind_in, word_kind}
 use Rattle.vital_lex.specs.ReservedWords.{reserved_words}
 use Rattle.vital_lex.specs.declared.kinds.Kind.{Kind}
 use Rattle.vital_lex.specs.declared.kinds.Kind.TheVariants as kind
+use Rattle.vital_lex.proofs.Tables.{kind_in-other}
 
 module _ (lower word : List ℕ) where
   same_word : bytes_eq lower (map lower_case word) ≡ true → lower ≡ map lower_case word
@@ -37,17 +38,8 @@ at_letter letter table (b ∷ bytes) found nonempty first same found_is =
 abbrev pub first_letters : List ℕ
 first_letters = 97 ∷ 98 ∷ 99 ∷ 100 ∷ 101 ∷ 102 ∷ 103 ∷ 105 ∷ 108 ∷ 109 ∷ 110 ∷ 111 ∷ 112 ∷ 114 ∷ 115 ∷ 116 ∷ 117 ∷ 118 ∷ 119 ∷ 120 ∷ []
 
--- no entry of a table is the word, where none begins with its first letter
-absent : (table : List (List ℕ × Kind)) (b : ℕ) (w : List ℕ) → list_all (λ entry. begins (λ x. list_any (λ letter. letter == x) first_letters) entry.0) table ≡ true → list_any (λ letter. letter == b) first_letters ≡ false → kind_in table (b ∷ w) ≡ None
-absent [] b w begun other = refl
-absent (([], k) ∷ table) b w begun other = absurd (false≢true begun)
-absent ((x ∷ xs, k) ∷ table) b w begun other =
-    let parts = and_parts (list_any (λ letter. letter == x) first_letters) _ begun in
-    let differ : eqb x b ≡ false = ne_eqb x b (λ e. false≢true (sym other ∙ sym (ap (λ y. list_any (λ letter. letter == y) first_letters) e) ∙ parts.0)) in
-    cond-false (eqb x b && bytes_eq xs w) (Some k) (kind_in table (b ∷ w)) (and_left (eqb x b) (bytes_eq xs w) differ) ∙ absent table b w parts.1 other
-
 -- a word that begins with no such letter is no reserved word
 pub at_no_letter : (word : List ℕ) → 0 < length word → list_any (λ letter. letter == lower_case (get_or word 0 0)) first_letters ≡ false → kind.Identifier ≡ word_kind word
 unfolding word_kind
 at_no_letter [] nonempty other = absurd (omega arith)
-at_no_letter (b ∷ bytes) nonempty other = sym (ap (λ k. unwrap_or k kind.Identifier) (absent reserved_words (lower_case b) (map lower_case bytes) refl other))
+at_no_letter (b ∷ bytes) nonempty other = sym (ap (λ k. unwrap_or k kind.Identifier) (kind_in-other (λ x. not (list_any (λ letter. letter == x) first_letters)) reserved_words (lower_case b) (map lower_case bytes) refl (ap not other)))

@@ -98,6 +98,6 @@ lexeme_kind before bytes =
     else (if is_extended_identifier bytes then Some kind.ExtendedIdentifier
     else (if is_number bytes then Some kind.Number
     else (if is_string_literal bytes then Some kind.StringLiteral
-    else (if takes_tick before && is_tick bytes then Some kind.Tick
-    else (if not (takes_tick before) && is_character_literal bytes then Some kind.CharacterLiteral
+    else (if is_tick bytes && takes_tick before then Some kind.Tick
+    else (if is_character_literal bytes && not (takes_tick before) then Some kind.CharacterLiteral
     else kind_in delimiters bytes)))))
