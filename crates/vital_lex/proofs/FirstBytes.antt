@@ -5,7 +5,7 @@ use Rattle.std.proofs.lemmas.Bool.{and_left, and_right, or_parts}
 use Rattle.std.proofs.lemmas.Bool.Decides.{nat_tests}
 use Rattle.vital_lex.specs.Bytes.{is_letter, is_digit}
 use Rattle.vital_lex.specs.Delimiters.{delimiters}
-use Rattle.vital_lex.specs.Firsts.{begins_word_or_literal}
+use Rattle.vital_lex.specs.Finding.{begins_word_or_literal}
 use Rattle.vital_lex.specs.Forms.{closes, is_basic_identifier, is_number, is_extended_identifier, is_string_literal, is_tick, is_character_literal, kind_in, word_kind, takes_tick, lexeme_kind}
 use Rattle.vital_lex.specs.declared.kinds.Kind.{Kind}
 use Rattle.vital_lex.specs.declared.kinds.Kind.TheVariants as kind

@@ -1,11 +1,11 @@
 -- A lexeme by what its first byte allows.
 use Rattle.std.proofs.Common.{◌≡◌, ℕ, ◌+◌, ◌<◌, ◌≤◌, Bool, true, false, ◌&&◌, cond, eqb, List, [], ◌∷◌, length, get_or, refl, ap, sym, ◌∙◌, ⊎_elim, arith, Option, Some, None}
 use Rattle.std.specs.Prelude.{slice_range, is_some, nat_lt}
-use Rattle.std.proofs.lemmas.Bool.{and_left, and_right, and_from, cond-false, cond-true, cases_lt, lt-ltb, le-ltb, eq-eqb, ne_eqb, cases_Bool}
+use Rattle.std.proofs.lemmas.Bool.{and_left, and_right, and_from, cond-false, cond-true, cases_lt, lt-ltb, le-ltb, eq-eqb, ne_eqb, cases_Bool, false≢true}
 use Rattle.std.proofs.lemmas.List.Edits.{length-between}
 use Rattle.vital_lex.specs.Bytes.{is_letter, is_digit, is_graphic}
 use Rattle.vital_lex.specs.Delimiters.{delimiters}
-use Rattle.vital_lex.specs.Firsts.{begins_word_or_literal}
+use Rattle.vital_lex.specs.Finding.{begins_word_or_literal}
 use Rattle.vital_lex.specs.Forms.{closes, is_basic_identifier, is_number, is_tick, is_character_literal, kind_in, word_kind, takes_tick, lexeme_kind}
 use Rattle.vital_lex.specs.Pieces.{IsLongest, NoneFits, IsLexeme, is_lexeme}
 use Rattle.vital_lex.specs.declared.kinds.Kind.{Kind}
@@ -13,6 +13,17 @@ use Rattle.vital_lex.specs.declared.kinds.Kind.TheVariants as kind
 use Rattle.vital_lex.proofs.FirstBytes.{nothing, at_letter, at_digit, at_backslash, at_quotation_mark, at_tick, at_character, at_other}
 use Rattle.vital_lex.proofs.Ranges.{range-none, range-head, range-one}
 use Rattle.vital_lex.proofs.Tables.{kind_in-long}
+
+-- what passes a test that no bytes at all pass has a byte
+pub moves : (test : List ℕ → Bool) (text : List ℕ) (at end : ℕ) → test [] ≡ false → IsLongest test text at end → at < end
+moves test text at end none longest =
+    ⊎_elim
+    (λ forward. forward)
+    (λ back.
+        let from : at ≤ end = longest.forward in
+        let here : end ≡ at = omega arith in
+        absurd (false≢true (sym (ap (λ e. test (slice_range text at e)) here ∙ ap test (range-none text at) ∙ none) ∙ longest.passes)))
+    (cases_lt at end)
 
 module _ (before : Option Kind) (text : List ℕ) (at : ℕ) (inside : at < length text) where
   -- what the first byte allows, of the bytes after it
@@ -49,11 +60,11 @@ module _ (before : Option Kind) (text : List ℕ) (at : ℕ) (inside : at < leng
         (cond-true (test (get_or text at 0 ∷ slice_range text (at + 1) end)) _ None (tested end forward longest.within true longest.passes) ∙ ap (λ w. Some (kind_of w)) (sym (range-head text at end forward longest.within)) ∙ ap Some (sym found_is))
         (λ more above within. cond-false (test (get_or text at 0 ∷ slice_range text (at + 1) more)) (Some (kind_of (get_or text at 0 ∷ slice_range text (at + 1) more))) None (tested more (omega arith) within false (longest.longest more above within)))
 
-  pub word_found : (end : ℕ) → at < end → is_letter (get_or text at 0) ≡ true → IsLongest is_basic_identifier text at end → (found : Kind) → found ≡ word_kind (slice_range text at end) → IsLexeme before text at end found
-  word_found end forward letter longest found found_is = lexeme_by is_basic_identifier word_kind (λ w. at_letter before w _ letter) end forward longest found found_is
+  pub word_found : (end : ℕ) → is_letter (get_or text at 0) ≡ true → IsLongest is_basic_identifier text at end → (found : Kind) → found ≡ word_kind (slice_range text at end) → IsLexeme before text at end found
+  word_found end letter longest found found_is = lexeme_by is_basic_identifier word_kind (λ w. at_letter before w _ letter) end (moves is_basic_identifier text at end refl longest) longest found found_is
 
-  pub number_found : (end : ℕ) → at < end → is_digit (get_or text at 0) ≡ true → IsLongest is_number text at end → IsLexeme before text at end kind.Number
-  number_found end forward digit longest = lexeme_by is_number (λ _. kind.Number) (λ w. at_digit before w _ digit) end forward longest kind.Number refl
+  pub number_found : (end : ℕ) → is_digit (get_or text at 0) ≡ true → IsLongest is_number text at end → IsLexeme before text at end kind.Number
+  number_found end digit longest = lexeme_by is_number (λ _. kind.Number) (λ w. at_digit before w _ digit) end (moves is_number text at end refl longest) longest kind.Number refl
 
   -- an extended identifier, which has something between its marks
   module _ (mark : get_or text at 0 ≡ 92) where
@@ -75,8 +86,15 @@ module _ (before : Option Kind) (text : List ℕ) (at : ℕ) (inside : at < leng
     pub extended_empty : IsLongest (closes 92) text (at + 1) (at + 2) → NoneFits (is_lexeme before) text at
     extended_empty longest = none_extended (λ end long within. longest.longest end long within)
 
-    pub extended_found : (end : ℕ) → at + 2 < end → IsLongest (closes 92) text (at + 1) end → IsLexeme before text at end kind.ExtendedIdentifier
-    extended_found end long longest =
+    -- nothing at all closes nothing
+    extended_long : (end : ℕ) → (end ≡ at + 2 → ⊥) → IsLongest (closes 92) text (at + 1) end → at + 2 < end
+    extended_long end more longest =
+        let some = moves (closes 92) text (at + 1) end refl longest in
+        omega arith
+
+    pub extended_found : (end : ℕ) → (end ≡ at + 2 → ⊥) → IsLongest (closes 92) text (at + 1) end → IsLexeme before text at end kind.ExtendedIdentifier
+    extended_found end more longest =
+        let long = extended_long end more longest in
         lexeme_from (λ w. cond (nat_lt 1 (length w) && closes 92 w) (Some kind.ExtendedIdentifier) None) extended end kind.ExtendedIdentifier (omega arith) longest.within
         (let w = slice_range text (at + 1) end in cond-true (nat_lt 1 (length w) && closes 92 w) (Some kind.ExtendedIdentifier) None (and_from (nat_lt 1 (length w)) _ (lt-ltb 1 (length w) (omega (arith, length-between text (at + 1) end longest.within))) longest.passes))
         (λ more above within. let w = slice_range text (at + 1) more in cond-false (nat_lt 1 (length w) && closes 92 w) (Some kind.ExtendedIdentifier) None (and_right (nat_lt 1 (length w)) _ (longest.longest more above within)))

@@ -1,6 +1,6 @@
 pub mod Bytes
 pub mod Delimiters
-pub mod Firsts
+pub mod Finding
 pub mod Forms
 pub mod Kinds
 pub mod Nesting

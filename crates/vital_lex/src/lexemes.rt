@@ -1,9 +1,8 @@
 //! The lexeme at an offset.
 
-ghost use Rattle.std.specs.Prelude.{◌≡◌, ◌<◌, false, length, slice_index, Option, MatchOption};
-ghost use Rattle.vital_lex.specs.Firsts.{begins_word_or_literal};
+ghost use Rattle.std.specs.Prelude.{◌≡◌, ◌<◌, false, length, slice_index, Option};
+ghost use Rattle.vital_lex.specs.Finding.{begins_word_or_literal, IsCompound, IsFound};
 ghost use Rattle.vital_lex.specs.Forms.{takes_tick};
-ghost use Rattle.vital_lex.specs.Pieces.{IsLexeme, NoneFits, is_lexeme};
 
 use crate::bytes::{is_digit, is_graphic, is_letter};
 use crate::delimiters::{compound_delimiter, delimiter};
@@ -33,7 +32,7 @@ fn takes_tick(before: Option<Kind>) -> bool
 fn extended_identifier_at(text: &[u8], at: usize) -> Option<Found>
     requires inside { at < length text.now }
     requires backslash { slice_index text.now at ≡ 92 }
-    ensures { (before : Option Kind) → MatchOption result (NoneFits (is_lexeme before) text.now at) (λ found. IsLexeme before text.now at found.end found.kind) }
+    ensures { (before : Option Kind) → IsFound before text.now at result }
 {
     let end = quoted_end(text, at + 1, b'\\')?;
     // `\\` has nothing between its marks.
@@ -50,7 +49,7 @@ fn extended_identifier_at(text: &[u8], at: usize) -> Option<Found>
 fn string_literal_at(text: &[u8], at: usize) -> Option<Found>
     requires inside { at < length text.now }
     requires mark { slice_index text.now at ≡ 34 }
-    ensures { (before : Option Kind) → MatchOption result (NoneFits (is_lexeme before) text.now at) (λ found. IsLexeme before text.now at found.end found.kind) }
+    ensures { (before : Option Kind) → IsFound before text.now at result }
 {
     let end = quoted_end(text, at + 1, b'"')?;
     Some(Found {
@@ -63,7 +62,7 @@ fn string_literal_at(text: &[u8], at: usize) -> Option<Found>
 fn apostrophe_at(text: &[u8], at: usize, before: Option<Kind>) -> Option<Found>
     requires inside { at < length text.now }
     requires apostrophe { slice_index text.now at ≡ 39 }
-    ensures { MatchOption result (NoneFits (is_lexeme before) text.now at) (λ found. IsLexeme before text.now at found.end found.kind) }
+    ensures { IsFound before text.now at result }
 {
     if takes_tick(before) {
         return Some(Found {
@@ -80,15 +79,25 @@ fn apostrophe_at(text: &[u8], at: usize, before: Option<Kind>) -> Option<Found>
     None
 }
 
+/// The delimiter of the byte at `at` and the one after it, if they are one.
+fn compound_delimiter_at(text: &[u8], at: usize) -> Option<Kind>
+    requires { at < length text.now }
+    ensures { IsCompound text.now at result }
+{
+    if at + 1 < text.len() {
+        compound_delimiter(text[at], text[at + 1])
+    } else {
+        None
+    }
+}
+
 /// The delimiter at a byte that begins nothing else.
 fn delimiter_at(text: &[u8], at: usize) -> Option<Found>
     requires inside { at < length text.now }
     requires other { begins_word_or_literal (slice_index text.now at) ≡ false }
-    ensures { (before : Option Kind) → MatchOption result (NoneFits (is_lexeme before) text.now at) (λ found. IsLexeme before text.now at found.end found.kind) }
+    ensures { (before : Option Kind) → IsFound before text.now at result }
 {
-    if at + 1 < text.len()
-        && let Some(kind) = compound_delimiter(text[at], text[at + 1])
-    {
+    if let Some(kind) = compound_delimiter_at(text, at) {
         return Some(Found { kind, end: at + 2 });
     }
     let kind = delimiter(text[at])?;
@@ -98,7 +107,7 @@ fn delimiter_at(text: &[u8], at: usize) -> Option<Found>
 /// The longest lexeme at `at`, if one fits, where `before` is the kind of the token before it.
 pub fn lexeme_at(text: &[u8], at: usize, before: Option<Kind>) -> Option<Found>
     requires { at < length text.now }
-    ensures { MatchOption result (NoneFits (is_lexeme before) text.now at) (λ found. IsLexeme before text.now at found.end found.kind) }
+    ensures { IsFound before text.now at result }
 {
     let first = text[at];
     if is_letter(first) {
