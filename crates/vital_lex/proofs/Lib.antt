@@ -1,9 +1,11 @@
 pub mod FirstBytes
 pub mod FoundLexemes
+pub mod Limits
 pub mod Numbers
 pub mod Quoted
 pub mod Ranges
 pub mod Separators
+pub mod Steps
 pub mod Tables
 pub mod Underlined
 pub mod WordTables
