@@ -2,6 +2,7 @@ pub mod FirstBytes
 pub mod FoundLexemes
 pub mod Limits
 pub mod Numbers
+pub mod Outcomes
 pub mod Quoted
 pub mod Ranges
 pub mod Separators
