@@ -5,6 +5,8 @@ pub mod Numbers
 pub mod Outcomes
 pub mod Quoted
 pub mod Ranges
+pub mod Readings
+pub mod Refusals
 pub mod Separators
 pub mod Steps
 pub mod Tables
