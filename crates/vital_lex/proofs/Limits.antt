@@ -78,10 +78,13 @@ module _ (room : ℕ) where
   pub within_front : (ls : List Lexeme) (l : Lexeme) → IsWithin room (ls ++ l ∷ []) → IsWithin room ls × (length ls < room) × (nesting (ls ++ l ∷ []) ≤ 64)
   within_front ls l within =
       let longer = length_push ls l in
-      let few = within.few in
-      (record {
-        few = omega arith;
-        shallow = λ n front.
-            let same : nesting (take n (ls ++ l ∷ [])) ≡ nesting (take n ls) = ap nesting (take-append-le n ls (l ∷ []) front) in
-            omega (arith, within.shallow n (omega arith));
-      }, omega arith, within_nesting (ls ++ l ∷ []) within)
+      let few = within.few in (
+        record {
+          few = omega arith;
+          shallow = λ n front.
+              let same : nesting (take n (ls ++ l ∷ [])) ≡ nesting (take n ls) = ap nesting (take-append-le n ls (l ∷ []) front) in
+              omega (arith, within.shallow n (omega arith));
+        },
+        omega arith,
+        within_nesting (ls ++ l ∷ []) within,
+      )

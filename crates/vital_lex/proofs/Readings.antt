@@ -22,17 +22,20 @@ module _ (lexer : Lexer) (r : IsReading lexer) where
 
   -- a separator
   pub parted : (end : ℕ) → IsLongest is_separator lexer.text.now lexer.at end → IsReading (record lexer { at = end }) × (lexer.at < end)
-  parted end longest = (record {
-    size = r.size;
-    inside = longest.within;
-    lexemes = r.lexemes;
-    read = record {
-      reaches = record { row = separator r.read.reaches.row longest; within = r.read.reaches.within };
-      tokens_are = r.read.tokens_are;
-      before_is = r.read.before_is;
-      nesting_is = r.read.nesting_is;
-    };
-  }, moves is_separator lexer.text.now lexer.at end no_empty_separator longest)
+  parted end longest = (
+    record {
+      size = r.size;
+      inside = longest.within;
+      lexemes = r.lexemes;
+      read = record {
+        reaches = record { row = separator r.read.reaches.row longest; within = r.read.reaches.within };
+        tokens_are = r.read.tokens_are;
+        before_is = r.read.before_is;
+        nesting_is = r.read.nesting_is;
+      };
+    },
+    moves is_separator lexer.text.now lexer.at end no_empty_separator longest,
+  )
 
   -- neither
   pub refused_stuck : lexer.at < length lexer.text.now → NoneFits is_separator lexer.text.now lexer.at → NoneFits (is_lexeme lexer.before) lexer.text.now lexer.at → IsRefused lexer.text.now lexer.room (fault.Fault lexer.at (why_at lexer.text.now lexer.at))
@@ -72,18 +75,20 @@ module _ (lexer : Lexer) (r : IsReading lexer) where
 
       pub taken : depth ≤ 64 → (tokens : Vec Token Global) → tokens.items ≡ lexer.tokens.items ++ token_of the_lexeme ∷ [] → IsReading (record { text = lexer.text; room = lexer.room; at = end; tokens = tokens; before = Some k; nesting = depth }) × (lexer.at < end)
       taken shallow tokens pushed =
-          let forward = next_moves lexer.text.now r.lexemes the_lexeme stands in
-          (record {
-            size = r.size;
-            inside = forward.1;
-            lexemes = r.lexemes ++ the_lexeme ∷ [];
-            read = record {
-              reaches = record {
-                row = lexeme r.read.reaches.row stands;
-                within = within_push lexer.room r.lexemes the_lexeme r.read.reaches.within room_left (omega (arith, depth_here));
+          let forward = next_moves lexer.text.now r.lexemes the_lexeme stands in (
+            record {
+              size = r.size;
+              inside = forward.1;
+              lexemes = r.lexemes ++ the_lexeme ∷ [];
+              read = record {
+                reaches = record {
+                  row = lexeme r.read.reaches.row stands;
+                  within = within_push lexer.room r.lexemes the_lexeme r.read.reaches.within room_left (omega (arith, depth_here));
+                };
+                tokens_are = pushed ∙ ap (λ ts. ts ++ token_of the_lexeme ∷ []) r.read.tokens_are ∙ sym (map_push token_of r.lexemes the_lexeme);
+                before_is = sym (last_kind-push r.lexemes the_lexeme);
+                nesting_is = sym depth_here;
               };
-              tokens_are = pushed ∙ ap (λ ts. ts ++ token_of the_lexeme ∷ []) r.read.tokens_are ∙ sym (map_push token_of r.lexemes the_lexeme);
-              before_is = sym (last_kind-push r.lexemes the_lexeme);
-              nesting_is = sym depth_here;
-            };
-          }, forward.0)
+            },
+            forward.0,
+          )

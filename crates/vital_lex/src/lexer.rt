@@ -6,13 +6,12 @@ ghost use Rattle.vital_lex.specs.Nesting.{nesting_after};
 ghost use Rattle.vital_lex.specs.Outcome.{Gives, IsOutcome, IsRefused, why_at};
 ghost use Rattle.vital_lex.specs.Pieces.{IsLexeme, NoneFits};
 
-use std::alloc::Global;
-
 use crate::ends::separator_end;
 use crate::faults::{LexError, TextFault, Why};
 use crate::kinds::Kind;
 use crate::lexemes::{Found, lexeme_at};
 use crate::token_list::{Token, Tokens};
+use std::alloc::Global;
 
 /// How deep a text may be nested.
 const DEPTH: u32 = 64;
@@ -146,5 +145,4 @@ pub fn lex_vhdl(alloc: Global, text: &[u8], room: u32) -> Result<Tokens, LexErro
 pub fn one_outcome()
     ensures { (text : List ℕ) (room : ℕ) → (outcome : Result (List Token) TextFault) × IsOutcome text room outcome
         × ((other : Result (List Token) TextFault) → IsOutcome text room other → other ≡ outcome) }
-{
-}
+{}

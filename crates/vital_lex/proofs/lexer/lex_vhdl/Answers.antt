@@ -58,12 +58,13 @@ whole c =
     let lexer = c.loop-lexer.lexer in
     let reading = c.loop-lexer.invariant.reading in
     let text_is = c.loop-lexer.invariant.text_is in
-    let at_end : lexer.at ≡ length c.args.text.now = omega (arith, ap length text_is, reading.inside) in
-    (reading.lexemes,
-    subst (λ (a : ℕ). Reaches c.args.text.now c.args.room a reading.lexemes) at_end
-    (subst (λ (t : List ℕ). Reaches t c.args.room lexer.at reading.lexemes) text_is
-    (subst (λ (r : ℕ). Reaches lexer.text.now r lexer.at reading.lexemes) c.loop-lexer.invariant.room_is reading.read.reaches)),
-    c.from_vec.ensures ∙ reading.read.tokens_are)
+    let at_end : lexer.at ≡ length c.args.text.now = omega (arith, ap length text_is, reading.inside) in (
+      reading.lexemes,
+      subst (λ (a : ℕ). Reaches c.args.text.now c.args.room a reading.lexemes) at_end
+          (subst (λ (t : List ℕ). Reaches t c.args.room lexer.at reading.lexemes) text_is
+          (subst (λ (r : ℕ). Reaches lexer.text.now r lexer.at reading.lexemes) c.loop-lexer.invariant.room_is reading.read.reaches)),
+      c.from_vec.ensures ∙ reading.read.tokens_are,
+    )
 
 pub returns-clause-read : goal.returns-clause-read
 returns-clause-read c = whole (goal.at.returns-clause-read c).After-from_vec
