@@ -2,7 +2,7 @@
 use Rattle.std.proofs.Common.{◌≡◌, ℕ, ◌+◌, ◌<◌, ◌≤◌, List, [], ◌∷◌, ◌++◌, length, take, refl, ap, sym, subst, ◌∙◌, ⊎_elim, arith, Option, Some, None}
 use Rattle.std.proofs.lemmas.Bool.{cases_lt}
 use Rattle.std.proofs.lemmas.List.{take_all, take-append-le, length_push}
-use Rattle.vital_lex.specs.Nesting.{nesting, nesting_from, nesting_after, nesting_at_word, IsShallow}
+use Rattle.vital_lex.specs.Nesting.{nesting, nesting_from, nesting_after, nesting_at_word}
 use Rattle.vital_lex.specs.Outcome.{IsWithin}
 use Rattle.vital_lex.specs.Pieces.{Lexeme, last_kind}
 use Rattle.vital_lex.specs.declared.kinds.Kind.{Kind}

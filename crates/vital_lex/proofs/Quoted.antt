@@ -1,7 +1,7 @@
 -- What stands between two marks, and the marks that may close it.
-use Rattle.std.proofs.Common.{◌≡◌, ℕ, ◌+◌, ◌<◌, ◌≤◌, Bool, true, false, ◌&&◌, cond, eqb, List, [], ◌∷◌, ◌++◌, length, get_or, refl, ap, sym, ◌∙◌, ⊎_elim, arith, append_assoc, append-nil, subst}
+use Rattle.std.proofs.Common.{◌≡◌, ℕ, ◌+◌, ◌<◌, ◌≤◌, true, false, ◌&&◌, eqb, List, [], ◌∷◌, ◌++◌, length, get_or, refl, ap, sym, ◌∙◌, ⊎_elim, arith, append_assoc, append-nil}
 use Rattle.std.specs.Prelude.{slice_range, Option, Some, None, MatchOption}
-use Rattle.std.proofs.lemmas.Bool.{and_left, ne_eqb, eq-eqb, cases_lt, cases_eq, cond-true, cond-false}
+use Rattle.std.proofs.lemmas.Bool.{and_left, ne_eqb, eq-eqb, cases_lt, cond-true, cond-false}
 use Rattle.vital_lex.specs.Bytes.{is_graphic}
 use Rattle.vital_lex.specs.Forms.{closes}
 use Rattle.vital_lex.specs.Pieces.{IsLongest, NoneFits}

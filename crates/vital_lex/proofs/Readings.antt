@@ -1,19 +1,18 @@
 -- A lexer's next piece.
-use Rattle.std.proofs.Common.{◌≡◌, ℕ, ◌+◌, ◌<◌, ◌≤◌, List, [], ◌∷◌, ◌++◌, length, map, refl, ap, sym, subst, ◌∙◌, arith, Option, Some, None, Global, Vec}
+use Rattle.std.proofs.Common.{◌≡◌, ℕ, ◌<◌, ◌≤◌, [], ◌∷◌, ◌++◌, length, refl, ap, sym, subst, ◌∙◌, arith, Option, Some, Global, Vec}
 use Rattle.std.specs.Vec.{vec_len}
 use Rattle.std.proofs.lemmas.List.{length-map, map_push}
 use Rattle.vital_lex.specs.Forms.{is_separator}
-use Rattle.vital_lex.specs.Kinds.{number}
 use Rattle.vital_lex.specs.Nesting.{nesting, nesting_after}
-use Rattle.vital_lex.specs.Outcome.{IsRefused, Reaches, why_at}
-use Rattle.vital_lex.specs.Pieces.{IsLongest, NoneFits, IsLexeme, is_lexeme, Lexeme, IsNext, Row, empty, separator, lexeme, token_of, last_kind}
-use Rattle.vital_lex.specs.Reading.{HasRead, IsReading}
+use Rattle.vital_lex.specs.Outcome.{IsRefused, why_at}
+use Rattle.vital_lex.specs.Pieces.{IsLongest, NoneFits, IsLexeme, is_lexeme, Lexeme, IsNext, separator, lexeme, token_of, last_kind}
+use Rattle.vital_lex.specs.Reading.{IsReading}
 use Rattle.vital_lex.specs.declared.faults.TextFault.TheVariants as fault
 use Rattle.vital_lex.specs.declared.kinds.Kind.{Kind}
 use Rattle.vital_lex.specs.declared.lexer.Lexer.{Lexer}
 use Rattle.vital_lex.specs.declared.token_list.Token.{Token}
 use Rattle.vital_lex.proofs.FoundLexemes.{moves}
-use Rattle.vital_lex.proofs.Limits.{last_kind-push, nesting-push, nesting-none, nesting_after_one, within_none, within_nesting, within_push}
+use Rattle.vital_lex.proofs.Limits.{last_kind-push, nesting-push, nesting_after_one, within_nesting, within_push}
 use Rattle.vital_lex.proofs.Steps.{next_moves, no_empty_separator}
 
 module _ (lexer : Lexer) (r : IsReading lexer) where

@@ -1,6 +1,6 @@
 -- How a call hands on a lexer's refusal.
 use Rattle.std.proofs.Common.{◌≡◌, ℕ, List, refl, ap, sym, subst, ◌∙◌}
-use Rattle.std.specs.Prelude.{Result, Ok, Err}
+use Rattle.std.specs.Prelude.{Result, Err}
 use Rattle.vital_lex.specs.Outcome.{IsOutcome, IsRefused, Gives}
 use Rattle.vital_lex.specs.declared.faults.LexError.{LexError}
 use Rattle.vital_lex.specs.declared.faults.LexError.TheVariants as error

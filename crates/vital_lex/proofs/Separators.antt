@@ -6,7 +6,7 @@ use Rattle.std.proofs.lemmas.Bool.{and_parts, and_from, and_left, and_right, ne_
 use Rattle.vital_lex.specs.Bytes.{is_blank}
 use Rattle.vital_lex.specs.Forms.{is_separator}
 use Rattle.vital_lex.specs.Pieces.{IsLongest, NoneFits}
-use Rattle.vital_lex.proofs.Ranges.{range-split, range-none, range-head, range-one, range-two}
+use Rattle.vital_lex.proofs.Ranges.{range-split, range-none, range-head, range-one}
 
 abbrev pub no_line_feed : ℕ → Bool
 no_line_feed = λ b. not (b == 10)

@@ -1,10 +1,10 @@
 -- What stands at an offset: a separator, a lexeme, neither, or the end of the text, and only one of these.
-use Rattle.std.proofs.Common.{◌≡◌, ℕ, zero, suc, ◌+◌, ◌<◌, ◌≤◌, Bool, true, false, List, [], ◌∷◌, length, refl, ap, sym, subst, ◌∙◌, ◌⊎◌, inl, inr, ⊎_elim, arith, Option, Some, None}
+use Rattle.std.proofs.Common.{◌≡◌, ℕ, zero, suc, ◌<◌, ◌≤◌, Bool, true, false, List, [], length, refl, ap, sym, subst, ◌∙◌, ◌⊎◌, inl, inr, ⊎_elim, arith, Option, Some, None}
 use Rattle.std.specs.Prelude.{slice_range, is_some}
-use Rattle.std.proofs.lemmas.Bool.{cases_lt, cases_eq, cases_order, cases_Bool, true≢false, false≢true}
+use Rattle.std.proofs.lemmas.Bool.{cases_lt, cases_order, cases_Bool, true≢false, false≢true}
 use Rattle.std.proofs.lemmas.Option.{same_Some}
 use Rattle.vital_lex.specs.Forms.{is_separator, lexeme_kind}
-use Rattle.vital_lex.specs.Pieces.{IsLongest, NoneFits, IsLexeme, is_lexeme, Lexeme, last_kind, IsNext, IsStuck}
+use Rattle.vital_lex.specs.Pieces.{IsLongest, NoneFits, is_lexeme, Lexeme, last_kind, IsNext, IsStuck}
 use Rattle.vital_lex.specs.declared.kinds.Kind.{Kind}
 use Rattle.vital_lex.proofs.FirstBytes.{nothing}
 use Rattle.vital_lex.proofs.FoundLexemes.{moves}

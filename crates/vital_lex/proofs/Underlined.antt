@@ -1,7 +1,7 @@
 -- Bytes of a class with underlines between them.
-use Rattle.std.proofs.Common.{◌≡◌, ℕ, ◌+◌, ◌<◌, ◌≤◌, Bool, true, false, ◌&&◌, ◌||◌, eqb, List, [], ◌∷◌, ◌++◌, length, get_or, refl, ap, sym, ◌∙◌, ⊎_elim, arith}
+use Rattle.std.proofs.Common.{◌≡◌, ℕ, ◌+◌, ◌<◌, ◌≤◌, Bool, true, false, ◌&&◌, eqb, List, [], ◌∷◌, ◌++◌, length, get_or, refl, ap, sym, ◌∙◌, ⊎_elim, arith}
 use Rattle.std.specs.Prelude.{slice_range}
-use Rattle.std.proofs.lemmas.Bool.{and_parts, and_from, and_left, and_right, or_cases, or_left, or_right, or_from, eq-eqb, eqb-true, ne_eqb, cases_lt, cases_eq, false≢true}
+use Rattle.std.proofs.lemmas.Bool.{and_parts, and_from, and_left, and_right, or_cases, or_left, or_right, or_from, eq-eqb, ne_eqb, cases_lt, cases_eq, false≢true}
 use Rattle.vital_lex.specs.Forms.{begins, continues, are_underlined}
 use Rattle.vital_lex.specs.Pieces.{IsLongest, NoneFits}
 use Rattle.vital_lex.proofs.Ranges.{range-split, range-none, range-head, range-one, range-two}

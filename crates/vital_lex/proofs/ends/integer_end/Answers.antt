@@ -1,5 +1,5 @@
 use Rattle.std.proofs.Common.{◌≡◌, ◌+◌, ◌<◌, length, false, get_or, sym, ◌∙◌, arith}
-use Rattle.vital_lex.specs.Bytes.{is_letter, is_digit}
+use Rattle.vital_lex.specs.Bytes.{is_digit}
 use Rattle.vital_lex.specs.Pieces.{NoneFits}
 use Rattle.vital_lex.specs.Forms.{continues}
 use Rattle.vital_lex.proofs.Underlined.{underlined_more, underlined_past, underlined_longest, stops_before}
