@@ -4,7 +4,7 @@ ghost use Rattle.std.specs.Prelude.{◌≡◌, ◌<◌, ◌≤◌, ℕ, List, le
 ghost use Rattle.vital_lex.specs.Forms.{is_separator};
 ghost use Rattle.vital_lex.specs.Nesting.{nesting_after};
 ghost use Rattle.vital_lex.specs.Outcome.{Gives, IsOutcome, IsRefused, why_at};
-ghost use Rattle.vital_lex.specs.Pieces.{IsLexeme, NoneFits};
+ghost use Rattle.vital_lex.specs.Pieces.{IsLexeme, Lexes, LexFault, NoneFits};
 
 use crate::ends::separator_end;
 use crate::faults::{LexError, TextFault, Why};
@@ -120,9 +120,13 @@ impl Lexer<'_> {
 /// the nesting 65; the lack of room comes first where both stand at one offset.
 pub fn lex_vhdl(alloc: Global, text: &[u8], room: u32) -> Result<Tokens, LexError>
     requires { length text.now ≤ 16777216 }
-    // The tokens are those of the whole text, within the limits.
+    // The tokens are the lexemes of the whole text.
+    ensures lexes { IfOk result (Lexes text.now) }
+    // And they are within the limits.
     ensures read { IfOk result (λ tokens. IsOutcome text.now room (Ok tokens)) }
-    // A refusal stands where the text is refused so.
+    // A fault stands where nothing fits after a row of pieces.
+    ensures faults { (offset : ℕ) (why : Why) → result ≡ Err (LexError.Text (TextFault.Fault offset why)) → LexFault text.now offset }
+    // A refusal, a fault or a limit, stands where the text is refused so.
     ensures refused { (fault : TextFault) → result ≡ Err (LexError.Text fault) → IsOutcome text.now room (Err fault) }
     // Whatever comes of the text is the answer, unless memory runs out.
     ensures only { (outcome : Result (List Token) TextFault) → IsOutcome text.now room outcome → Gives result outcome }

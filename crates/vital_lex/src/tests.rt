@@ -1,3 +1,7 @@
+ghost use Rattle.std.specs.Prelude.{◌≡◌, List, [], ◌∷◌, codes, map, true, false};
+ghost use Rattle.vital_lex.specs.Forms.{is_basic_identifier, is_character_literal, is_extended_identifier, is_number, is_separator, is_string_literal};
+ghost use Rattle.vital_lex.specs.Places.{line_of, column_of};
+
 use super::*;
 use std::alloc::{AllocError, Global};
 use std::process::Abort;
@@ -54,7 +58,7 @@ static READ: [(&[u8], &[Row]); 22] = [
         ],
     ),
     (
-        b"\\a\\'IS'1'",
+        b"\\a\'IS'1'",
         &[
             (Kind::ExtendedIdentifier, 0, 3),
             (Kind::Tick, 3, 4),
@@ -70,8 +74,8 @@ static READ: [(&[u8], &[Row]); 22] = [
             (Kind::CharacterLiteral, 4, 7),
         ],
     ),
-    (b"\\a\\\\b\\", &[(Kind::ExtendedIdentifier, 0, 6)]),
-    (b"\\\\\\\\", &[(Kind::ExtendedIdentifier, 0, 4)]),
+    (b"\\a\\b\\", &[(Kind::ExtendedIdentifier, 0, 6)]),
+    (b"\\\\", &[(Kind::ExtendedIdentifier, 0, 4)]),
     (b"1_0.5", &[(Kind::Number, 0, 5)]),
     (b"1.", &[(Kind::Number, 0, 1), (Kind::Dot, 1, 2)]),
     (
@@ -141,10 +145,30 @@ static FAULTS: [(&[u8], u32, Why); 16] = [
     (b"\"abc\n\"", 0, UNCLOSED),
     (b"\"a\"\"b", 3, UNCLOSED),
     (b"\\a\x80\\", 0, UNCLOSED),
-    (b"\\a\\\\b", 3, UNCLOSED),
-    (b"\\\\", 0, UNCLOSED),
-    (b"\\\\\\a", 0, UNCLOSED),
+    (b"\\a\\b", 3, UNCLOSED),
+    (b"\\", 0, UNCLOSED),
+    (b"\\\\a", 0, UNCLOSED),
 ];
+
+// What the definitions say of some rows.
+fn definitions_on_rows()
+    ensures identifiers { map is_basic_identifier (codes "a_b1" ∷ codes "a__b" ∷ codes "_a" ∷ codes "a_" ∷ codes "1a" ∷ [])
+        ≡ true ∷ false ∷ false ∷ false ∷ false ∷ [] }
+    ensures numbers { map is_number (codes "1_0.5" ∷ codes "12" ∷ codes "1__0" ∷ codes "1." ∷ codes "1.5.2" ∷ codes "1_" ∷ [])
+        ≡ true ∷ true ∷ false ∷ false ∷ false ∷ false ∷ [] }
+    // `""`, `"a""b"` and `"a"b"`
+    ensures strings { map is_string_literal ((34 ∷ 34 ∷ []) ∷ (34 ∷ 97 ∷ 34 ∷ 34 ∷ 98 ∷ 34 ∷ []) ∷ (34 ∷ 97 ∷ 34 ∷ 98 ∷ 34 ∷ []) ∷ [])
+        ≡ true ∷ true ∷ false ∷ [] }
+    // `\a\\b\`, `\\` and `\a`
+    ensures extended { map is_extended_identifier ((92 ∷ 97 ∷ 92 ∷ 92 ∷ 98 ∷ 92 ∷ []) ∷ (92 ∷ 92 ∷ []) ∷ (92 ∷ 97 ∷ []) ∷ [])
+        ≡ true ∷ false ∷ false ∷ [] }
+    ensures characters { map is_character_literal (codes "'x'" ∷ codes "'''" ∷ codes "''" ∷ codes "'xy'" ∷ [])
+        ≡ true ∷ true ∷ false ∷ false ∷ [] }
+    ensures separators { map is_separator (codes " " ∷ codes "--x" ∷ codes "  " ∷ codes "-" ∷ [])
+        ≡ true ∷ true ∷ false ∷ false ∷ [] }
+    ensures line { line_of (97 ∷ 10 ∷ 98 ∷ []) 3 ≡ 2 }
+    ensures column { column_of (97 ∷ 10 ∷ 98 ∷ []) 3 ≡ 2 }
+{}
 
 fn agree(found: &[Token], want: &[Row]) -> bool {
     found.len() == want.len()
@@ -291,6 +315,7 @@ fn places(rt: HostRuntime) -> Result<(), Fail> {
 #[test]
 fn lists(rt: HostRuntime) -> Result<(), Fail> {
     one_outcome();
+    definitions_on_rows();
     let token = Token {
         kind: Kind::Xor.number(),
         start: 1,
