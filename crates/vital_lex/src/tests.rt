@@ -58,7 +58,7 @@ static READ: [(&[u8], &[Row]); 22] = [
         ],
     ),
     (
-        b"\\a\'IS'1'",
+        b"\\a\\'IS'1'",
         &[
             (Kind::ExtendedIdentifier, 0, 3),
             (Kind::Tick, 3, 4),
@@ -74,8 +74,8 @@ static READ: [(&[u8], &[Row]); 22] = [
             (Kind::CharacterLiteral, 4, 7),
         ],
     ),
-    (b"\\a\\b\\", &[(Kind::ExtendedIdentifier, 0, 6)]),
-    (b"\\\\", &[(Kind::ExtendedIdentifier, 0, 4)]),
+    (b"\\a\\\\b\\", &[(Kind::ExtendedIdentifier, 0, 6)]),
+    (b"\\\\\\\\", &[(Kind::ExtendedIdentifier, 0, 4)]),
     (b"1_0.5", &[(Kind::Number, 0, 5)]),
     (b"1.", &[(Kind::Number, 0, 1), (Kind::Dot, 1, 2)]),
     (
@@ -145,9 +145,9 @@ static FAULTS: [(&[u8], u32, Why); 16] = [
     (b"\"abc\n\"", 0, UNCLOSED),
     (b"\"a\"\"b", 3, UNCLOSED),
     (b"\\a\x80\\", 0, UNCLOSED),
-    (b"\\a\\b", 3, UNCLOSED),
-    (b"\\", 0, UNCLOSED),
-    (b"\\\\a", 0, UNCLOSED),
+    (b"\\a\\\\b", 3, UNCLOSED),
+    (b"\\\\", 0, UNCLOSED),
+    (b"\\\\\\a", 0, UNCLOSED),
 ];
 
 // What the definitions say of some rows.
