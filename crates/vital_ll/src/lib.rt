@@ -1,0 +1,9 @@
+// Reading by any predictive grammar: rules over numbers of token kinds, the one derivation of a list of
+// tokens, and the first token that no sentence goes on with.
+#![tactic(auto)]
+
+mod derivation;
+mod grammar;
+
+pub use derivation::{Step, Tree};
+pub use grammar::{Alternative, Rule, RuleList, Sym};
