@@ -1,1 +1,4 @@
 pub mod Deriving
+pub mod Progress
+pub mod Parsing
+pub mod Choosing

@@ -1,3 +1,5 @@
 pub mod Grammar
 pub mod Sentence
 pub mod Choice
+pub mod Table
+pub mod Refusal

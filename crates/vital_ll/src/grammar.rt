@@ -1,4 +1,5 @@
-ghost use Rattle.std.specs.Prelude.{◌≡◌};
+ghost use Rattle.std.specs.Prelude.{◌≡◌, Some, IsSome, slice_get};
+ghost use Rattle.vital_ll.specs.Grammar.{alternative_of};
 
 use std::marker::Model;
 
@@ -70,6 +71,14 @@ impl Alternative {
     }
 }
 
+impl Alternative {
+    fn symbols(&self) -> &[Sym]
+        ensures { result.now ≡ self.now }
+    {
+        self.symbols.as_slice()
+    }
+}
+
 impl Rule {
     /// The rule of these alternatives. Takes no memory.
     pub fn from_vec(alternatives: Vec<Alternative>) -> Self
@@ -86,6 +95,15 @@ impl Rule {
     }
 }
 
+impl Rule {
+    fn symbols(&self, alternative: u16) -> &[Sym]
+        requires { IsSome (slice_get self.now alternative) }
+        ensures { slice_get self.now alternative ≡ Some result.now }
+    {
+        self.alternatives[usize::from(alternative)].symbols()
+    }
+}
+
 impl RuleList {
     /// The grammar of these rules. Takes no memory.
     pub fn from_vec(rules: Vec<Rule>) -> Self
@@ -99,5 +117,13 @@ impl RuleList {
         ensures { result.items ≡ self }
     {
         self.rules
+    }
+
+    /// The symbols of an alternative that is there.
+    pub(crate) fn symbols(&self, rule: u16, alternative: u16) -> &[Sym]
+        requires { IsSome (alternative_of self.now rule alternative) }
+        ensures { alternative_of self.now rule alternative ≡ Some result.now }
+    {
+        self.rules[usize::from(rule)].symbols(alternative)
     }
 }

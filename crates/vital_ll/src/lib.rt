@@ -4,6 +4,10 @@
 
 mod derivation;
 mod grammar;
+mod prediction;
+mod reading;
 
 pub use derivation::{Step, Tree};
 pub use grammar::{Alternative, Rule, RuleList, Sym};
+pub use prediction::Rules;
+pub use reading::{ParseError, parse};
