@@ -83,7 +83,7 @@ choice_of g next more r a chosen rest before tree form is d =
     choice_cases g next more r a chosen rest before form is p.us p.vs p.below p.after p.front p.back p.tokens_are
 
 -- the symbols of an alternative name rules that are there
-named_alternative : (g : Grammar) (r a : ℕ) (chosen : List Sym) → IsWellFormed g → alternative_of g r a ≡ Some chosen → All (IsNamed (length g)) chosen
+pub named_alternative : (g : Grammar) (r a : ℕ) (chosen : List Sym) → IsWellFormed g → alternative_of g r a ≡ Some chosen → All (IsNamed (length g)) chosen
 named_alternative g r a chosen well is =
     option_and_then_some _ _ chosen is (λ alternatives at inside.
       let rule_named = subst (λ (l : List (List Sym)). All (All (IsNamed (length g))) l) (get_or_from_slice_get g r alternatives [] at) (All-get_or (All (All (IsNamed (length g)))) g r [] (slice_get_within g r alternatives at) well.named) in

@@ -3,3 +3,5 @@ pub mod Sentence
 pub mod Choice
 pub mod Table
 pub mod Refusal
+pub mod Marks
+pub mod Listing

@@ -1,4 +1,4 @@
-ghost use Rattle.std.specs.Prelude.{◌≡◌, Some, IsSome, slice_get};
+ghost use Rattle.std.specs.Prelude.{◌≡◌, ◌<◌, [], Some, IsSome, length, slice_get, slice_index_or};
 ghost use Rattle.vital_ll.specs.Grammar.{alternative_of};
 
 use std::marker::Model;
@@ -96,6 +96,12 @@ impl Rule {
 }
 
 impl Rule {
+    fn len(&self) -> usize
+        ensures { result ≡ length self.now }
+    {
+        self.alternatives.len()
+    }
+
     fn symbols(&self, alternative: u16) -> &[Sym]
         requires { IsSome (slice_get self.now alternative) }
         ensures { slice_get self.now alternative ≡ Some result.now }
@@ -117,6 +123,21 @@ impl RuleList {
         ensures { result.items ≡ self }
     {
         self.rules
+    }
+
+    /// How many rules there are.
+    pub(crate) fn len(&self) -> usize
+        ensures { result ≡ length self.now }
+    {
+        self.rules.len()
+    }
+
+    /// How many alternatives a rule has.
+    pub(crate) fn alternative_count(&self, rule: usize) -> usize
+        requires { rule < length self.now }
+        ensures { result ≡ length (slice_index_or self.now rule []) }
+    {
+        self.rules[rule].len()
     }
 
     /// The symbols of an alternative that is there.

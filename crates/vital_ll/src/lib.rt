@@ -2,8 +2,11 @@
 // tokens, and the first token that no sentence goes on with.
 #![tactic(auto)]
 
+mod beginnings;
 mod derivation;
 mod grammar;
+mod listing;
+mod marks;
 mod prediction;
 mod reading;
 
