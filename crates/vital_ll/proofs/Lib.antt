@@ -6,3 +6,4 @@ pub mod Complete
 pub mod Sound
 pub mod Turns
 pub mod Listings
+pub mod Passing

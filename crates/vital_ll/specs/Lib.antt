@@ -5,3 +5,4 @@ pub mod Table
 pub mod Refusal
 pub mod Marks
 pub mod Listing
+pub mod Passes

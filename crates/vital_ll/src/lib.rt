@@ -7,6 +7,7 @@ mod derivation;
 mod grammar;
 mod listing;
 mod marks;
+mod passes;
 mod prediction;
 mod reading;
 
