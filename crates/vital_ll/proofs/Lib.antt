@@ -7,3 +7,4 @@ pub mod Sound
 pub mod Turns
 pub mod Listings
 pub mod Passing
+pub mod Made

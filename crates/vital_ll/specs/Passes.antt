@@ -6,7 +6,8 @@ use Rattle.vital_ll.specs.declared.derivation.Step.{Step}
 use Rattle.vital_ll.specs.declared.listing.Place.{Place}
 use Rattle.vital_ll.specs.Grammar.{Grammar, alternative_of}
 use Rattle.vital_ll.specs.Choice.{IsWellFormed}
-use Rattle.vital_ll.specs.Marks.{Marks, marked, empties, begins, EmptySound, FirstSound, ReachSound}
+use Rattle.vital_ll.specs.Sentence.{end_mark}
+use Rattle.vital_ll.specs.Marks.{Marks, marked, empties, begins, EmptySound, FirstSound, ReachSound, FollowSound, EmptyClosed, FirstClosed, ReachClosed, FollowClosed}
 use Rattle.vital_ll.specs.Listing.{ListsPlaces}
 
 -- of a list's element number k
@@ -45,3 +46,29 @@ pub record FollowsFrom (g : Grammar) (steps : List Step) (places : List Place) (
   pub empty_sound : EmptySound g (marked nullable)
   pub first_sound : FirstSound g (marked first) t
   pub reach_sound : ReachSound g (marked reached)
+
+-- the marks of the rules that can be empty
+pub record AreNullable (g : Grammar) (marks : List Bool) : Type 0 where
+  pub len : length marks ≡ length g
+  pub sound : EmptySound g (marked marks)
+  pub closed : EmptyClosed g (marked marks)
+
+-- the marks of the rules that can begin with the token
+pub record AreFirst (g : Grammar) (nullable : List Bool) (t : ℕ) (marks : List Bool) : Type 0 where
+  pub len : length marks ≡ length g
+  pub sound : FirstSound g (marked marks) t
+  pub closed : FirstClosed g (marked nullable) (marked marks) t
+
+-- the marks of the rules that stand in some form
+pub record AreReached (g : Grammar) (marks : List Bool) : Type 0 where
+  pub len : length marks ≡ length g
+  pub sound : ReachSound g (marked marks)
+  pub closed : ReachClosed g (marked marks)
+  pub at_first : marked marks 0 ≡ true
+
+-- the marks of the rules that the token follows
+pub record AreFollowed (g : Grammar) (nullable first reached : List Bool) (t : ℕ) (marks : List Bool) : Type 0 where
+  pub len : length marks ≡ length g
+  pub sound : FollowSound g (marked marks) t
+  pub closed : FollowClosed g (marked nullable) (marked first) (marked reached) (marked marks) t
+  pub at_end : t ≡ end_mark → marked marks 0 ≡ true

@@ -10,6 +10,8 @@ mod marks;
 mod passes;
 mod prediction;
 mod reading;
+mod sets;
+mod token;
 
 pub use derivation::{Step, Tree};
 pub use grammar::{Alternative, Rule, RuleList, Sym};

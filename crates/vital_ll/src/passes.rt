@@ -24,6 +24,7 @@ fn add(marks: &mut [bool], rule: usize) -> bool
 }
 
 /// Marks each rule that can be empty.
+#[derive(Drop)]
 pub(crate) struct EmptyPass<'a> {
     pub(crate) rules: &'a RuleList,
     pub(crate) steps: &'a [Step],
@@ -50,6 +51,7 @@ impl Pass for EmptyPass<'_> {
 }
 
 /// Marks each rule that can begin with the token.
+#[derive(Drop)]
 pub(crate) struct FirstPass<'a> {
     pub(crate) rules: &'a RuleList,
     pub(crate) steps: &'a [Step],
@@ -92,6 +94,7 @@ fn named_at(rules: &RuleList, place: Place) -> Option<(u16, &[Sym])>
 }
 
 /// Marks each rule that stands in some sentential form.
+#[derive(Drop)]
 pub(crate) struct ReachPass<'a> {
     pub(crate) rules: &'a RuleList,
     pub(crate) steps: &'a [Step],
@@ -122,6 +125,7 @@ impl Pass for ReachPass<'_> {
 }
 
 /// Marks each rule that the token follows in some sentence.
+#[derive(Drop)]
 pub(crate) struct FollowPass<'a> {
     pub(crate) rules: &'a RuleList,
     pub(crate) steps: &'a [Step],
