@@ -8,3 +8,4 @@ pub mod Turns
 pub mod Listings
 pub mod Passing
 pub mod Made
+pub mod Filling

@@ -12,7 +12,7 @@ use Rattle.vital_ll.specs.Marks.{Marks, empties, begins, IsReached, EmptySound, 
 use Rattle.vital_ll.proofs.Deriving.{Derives-append, Derives-split, derives_at}
 use Rattle.vital_ll.proofs.Progress.{named_alternative, derives_some}
 
-all_front : {A : Type 0} (P : A → Type 0) (xs ys : List A) → All P (xs ++ ys) → All P xs
+pub all_front : {A : Type 0} (P : A → Type 0) (xs ys : List A) → All P (xs ++ ys) → All P xs
 all_front P [] ys h = All-nil P
 all_front P (x ∷ xs) ys h = All-cons P x xs (All-head P x (xs ++ ys) h) (all_front P xs ys (All-tail P x (xs ++ ys) h))
 

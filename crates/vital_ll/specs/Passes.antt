@@ -72,3 +72,10 @@ pub record AreFollowed (g : Grammar) (nullable first reached : List Bool) (t : �
   pub sound : FollowSound g (marked marks) t
   pub closed : FollowClosed g (marked nullable) (marked first) (marked reached) (marked marks) t
   pub at_end : t ≡ end_mark → marked marks 0 ≡ true
+
+-- the marks of one token
+pub record AreSets (g : Grammar) (t : ℕ) (nullable first reached follow : List Bool) : Type 0 where
+  pub nullable_is : AreNullable g nullable
+  pub first_is : AreFirst g nullable t first
+  pub reached_is : AreReached g reached
+  pub follow_is : AreFollowed g nullable first reached t follow

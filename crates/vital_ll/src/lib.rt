@@ -3,6 +3,7 @@
 #![tactic(auto)]
 
 mod beginnings;
+mod column;
 mod derivation;
 mod grammar;
 mod listing;
@@ -12,6 +13,7 @@ mod prediction;
 mod reading;
 mod sets;
 mod token;
+mod width;
 
 pub use derivation::{Step, Tree};
 pub use grammar::{Alternative, Rule, RuleList, Sym};

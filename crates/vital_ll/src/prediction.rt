@@ -14,7 +14,7 @@ pub struct Rules {
     grammar: RuleList,
     /// One more than the largest kind of token that is named.
     width: usize,
-    /// A row of `width + 1` entries for each rule: one for each kind, and one for the end mark.
+    /// A column of one entry a rule for each kind below `width`, and one for the end mark.
     table: Vec<Option<u16>>,
 }
 
@@ -53,7 +53,7 @@ impl Rules {
             Some(kind) if usize::from(kind) < self.width => usize::from(kind),
             Some(_) => return None,
         };
-        self.table[usize::from(rule) * (self.width + 1) + column]
+        self.table[column * self.grammar.len() + usize::from(rule)]
     }
 
     /// The symbols of an alternative that is there.
