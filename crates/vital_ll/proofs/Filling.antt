@@ -1,6 +1,8 @@
 -- How the table is filled.
 use Rattle.std.proofs.Common.{◌≡◌, ℕ, zero, suc, ◌+◌, ◌*◌, ◌<◌, ◌≤◌, min, Bool, true, false, cond, List, [], ◌∷◌, ◌++◌, length, get_or, set, take, Option, Some, None, IsSome, is_some, slice_get, All, Contains, refl, sym, ap, ◌∙◌, subst, arith, inl, inr, ◌⊎◌, eqb}
-use Rattle.std.proofs.lemmas.List.{take_more, get_or-set_same, get_or-set_other, length-set, get_or_append_left, get_or-append_right, length-append}
+use Rattle.std.proofs.lemmas.List.{take_more, get_or-set_same, get_or-set_other, length-set, get_or_append_left, get_or-append_right, length-append, get_or-append-add}
+use Rattle.std.proofs.lemmas.Nat.{mul-add-lt}
+use Rattle.std.proofs.Math.Nat.{mul_comm}
 use Rattle.std.proofs.lemmas.List.Elements.{Contains-push, Contains-append_left, Contains-push_cases, All-head, All-tail, All-get_or, All-append, All-cons, All-nil, All-weaker, All-more}
 use Rattle.std.proofs.lemmas.Bool.{cases_eq, cases_lt, eq-eqb, ne_eqb}
 use Rattle.std.proofs.lemmas.Option.{option_and_then_some, slice_get_within, get_or_from_slice_get}
@@ -207,3 +209,47 @@ table_made g w table clear well narrow below filled past = record {
   there = λ r column a h k. filled.there r column a h (omega arith);
   only = λ r a column h k. filled.only r a column (omega arith) (omega arith);
   named = λ r a t. choice_known g w r a t below }
+
+in_table : (n r column columns : ℕ) → r < n → column < columns → column * n + r < columns * n
+in_table n r column columns low h =
+    let inside : column * n + r < n * columns = mul-add-lt column n r columns h low in
+    let same : columns * n ≡ n * columns = mul_comm columns n in
+    omega arith
+
+entry_old : (n r column columns : ℕ) (table more : List (Option ℕ)) → length table ≡ columns * n → r < n → column < columns → entry n (table ++ more) r column ≡ entry n table r column
+entry_old n r column columns table more size low h =
+    get_or_append_left table more None (column * n + r) (let inside = in_table n r column columns low h in omega arith)
+
+entry_new : (n r columns : ℕ) (table more : List (Option ℕ)) → length table ≡ columns * n → entry n (table ++ more) r columns ≡ get_or more r None
+entry_new n r columns table more size =
+    ap (λ (x : ℕ). get_or (table ++ more) (x + r) None) (sym size) ∙ get_or-append-add table more r None
+
+-- one more column
+pub fill_more : (g : Grammar) (w columns : ℕ) (steps : List Step) (table choices : List (Option ℕ)) (clear after : ℕ) → ListsSteps g steps → IsFilled g w columns table clear →
+    IsColumn g (token_of w columns) steps clear choices after → IsFilled g w (columns + 1) (table ++ choices) after
+fill_more g w columns steps table choices clear after lists f c = record {
+  size = length-append table choices ∙ (let s = f.size in let t = c.size in let e : (columns + 1) * length g ≡ columns * length g + length g = omega arith in omega arith);
+  lower = let h = f.lower in let k = c.lower in omega arith;
+  there = λ r column a low h is. elim (cases_eq column columns) [
+      inl e ↦
+        let chosen = c.sound r a (sym (entry_new (length g) r columns table choices f.size) ∙ ap (λ (x : ℕ). entry (length g) (table ++ choices) r x) (sym e) ∙ is) in
+        ap is_some chosen.1
+    | inr d ↦ f.there r column a low (omega arith) (sym (entry_old (length g) r column columns table choices f.size low (omega arith)) ∙ is) ];
+  only = λ r a column low h chosen. elim (cases_eq column columns) [
+      inl e ↦
+        let here = subst (λ (x : ℕ). IsChoice g r a (token_of w x)) e chosen in
+        ap (λ (x : ℕ). entry (length g) (table ++ choices) r x) e ∙ entry_new (length g) r columns table choices f.size ∙ c.complete r a low (lists.complete r a (ap is_some chosen.1)) here
+    | inr d ↦
+        let there : r < length g = rule_there g r a chosen.0 chosen.1 in
+        entry_old (length g) r column columns table choices f.size there (omega arith) ∙ f.only r a column (let k = c.lower in omega arith) (omega arith) chosen ];
+  meets = elim c.meets [
+      inl e ↦ subst (λ (x : ℕ). (x ≡ length g) ⊎ HasConflict g x) (sym e) f.meets
+    | inr h ↦ inr h ] }
+
+pub fill_none : (g : Grammar) (w : ℕ) (table : List (Option ℕ)) (clear : ℕ) → table ≡ [] → clear ≡ length g → IsFilled g w 0 table clear
+fill_none g w table clear table_is clear_is = record {
+  size = ap length table_is ∙ (let e : 0 ≡ 0 * length g = omega arith in e);
+  lower = omega arith;
+  there = λ r column a low h is. absurd (omega arith);
+  only = λ r a column low h chosen. absurd (omega arith);
+  meets = inl clear_is }

@@ -6,3 +6,4 @@ pub mod Refusal
 pub mod Marks
 pub mod Listing
 pub mod Passes
+pub mod Conflict

@@ -8,7 +8,7 @@ use Rattle.vital_ll.specs.Grammar.{Grammar, alternative_of}
 use Rattle.vital_ll.specs.Choice.{IsWellFormed}
 use Rattle.vital_ll.specs.Sentence.{end_mark}
 use Rattle.vital_ll.specs.Marks.{Marks, marked, empties, begins, EmptySound, FirstSound, ReachSound, FollowSound, EmptyClosed, FirstClosed, ReachClosed, FollowClosed}
-use Rattle.vital_ll.specs.Listing.{ListsPlaces}
+use Rattle.vital_ll.specs.Listing.{ListsSteps, ListsPlaces}
 
 -- of a list's element number k
 abbrev pub At : {A : Type 0} → List A → ℕ → (A → Type 0) → Type 0
@@ -79,3 +79,11 @@ pub record AreSets (g : Grammar) (t : ℕ) (nullable first reached follow : List
   pub first_is : AreFirst g nullable t first
   pub reached_is : AreReached g reached
   pub follow_is : AreFollowed g nullable first reached t follow
+
+-- what is found once for all tokens
+pub record IsAnalysis (g : Grammar) (steps : List Step) (places : List Place) (nullable reached : List Bool) : Type 0 where
+  pub well_formed : IsWellFormed g
+  pub lists_steps : ListsSteps g steps
+  pub lists_places : ListsPlaces g steps places
+  pub nullable_is : AreNullable g nullable
+  pub reached_is : AreReached g reached

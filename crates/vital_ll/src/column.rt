@@ -1,11 +1,13 @@
 ghost use Rattle.std.specs.Prelude.{◌≡◌, ◌<◌, ◌≤◌, vec_len, IfOk};
 ghost use Rattle.vital_ll.specs.Choice.{IsWellFormed};
-ghost use Rattle.vital_ll.specs.Listing.{ListsSteps, ListsPlaces};
-ghost use Rattle.vital_ll.specs.Passes.{FollowsFrom, AreSets, AreNullable, AreReached};
+ghost use Rattle.vital_ll.specs.Listing.{ListsSteps};
+ghost use Rattle.vital_ll.specs.Passes.{AreSets, IsAnalysis};
 ghost use Rattle.vital_ll.specs.Table.{IsAdded, IsColumn};
 
 use crate::beginnings::can_begin;
 use crate::derivation::Step;
+use crate::grammar::RuleList;
+use crate::listing::Place;
 use crate::passes::FollowPass;
 use crate::sets::{first_rules, followed_rules};
 use std::alloc::{AllocError, Global};
@@ -50,4 +52,35 @@ fn decide(alloc: Global, pass: &FollowPass, follow: &[bool], before: usize) -> R
         }
     }
     Ok(Column { choices, clear })
+}
+
+/// What is found of a grammar once for all tokens.
+#[derive(Drop)]
+pub(crate) struct Analysis<'a> {
+    pub(crate) rules: &'a RuleList,
+    pub(crate) steps: &'a [Step],
+    pub(crate) places: &'a [Place],
+    pub(crate) nullable: &'a [bool],
+    pub(crate) reached: &'a [bool],
+}
+
+impl Analysis<'_> {
+    /// The alternatives that the token decides for. Below `before` no rule has a conflict in another column.
+    pub(crate) fn column(&self, alloc: Global, token: u32, before: usize) -> Result<Column, AllocError>
+        requires { IsAnalysis self.now.rules.now self.now.steps.now self.now.places.now self.now.nullable.now self.now.reached.now }
+        ensures { IfOk result (λ column. IsColumn self.now.rules.now token self.now.steps.now before column.choices.items column.clear) }
+    {
+        let first = first_rules(alloc, self.rules, self.steps, token, self.nullable)?;
+        let pass = FollowPass {
+            rules: self.rules,
+            steps: self.steps,
+            places: self.places,
+            token,
+            nullable: self.nullable,
+            first: &first,
+            reached: self.reached,
+        };
+        let follow = followed_rules(alloc, &pass)?;
+        decide(alloc, &pass, &follow, before)
+    }
 }

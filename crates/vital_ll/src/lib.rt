@@ -17,5 +17,5 @@ mod width;
 
 pub use derivation::{Step, Tree};
 pub use grammar::{Alternative, Rule, RuleList, Sym};
-pub use prediction::Rules;
+pub use prediction::{Rules, RulesError};
 pub use reading::{ParseError, parse};
