@@ -9,3 +9,4 @@ pub mod Listings
 pub mod Passing
 pub mod Made
 pub mod Filling
+pub mod ByTables

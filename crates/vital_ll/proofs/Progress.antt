@@ -82,12 +82,16 @@ choice_of g next more r a chosen rest before tree form is d =
     let p = Derives-split chosen rest (Derives-reads d) refl in
     choice_cases g next more r a chosen rest before form is p.us p.vs p.below p.after p.front p.back p.tokens_are
 
+-- the symbols of an alternative name rules below n, where all do
+pub all_named : (g : Grammar) (n r a : ℕ) (chosen : List Sym) → All (All (All (IsNamed n))) g → alternative_of g r a ≡ Some chosen → All (IsNamed n) chosen
+all_named g n r a chosen named is =
+    option_and_then_some _ _ chosen is (λ alternatives at inside.
+      let rule_named = subst (λ (l : List (List Sym)). All (All (IsNamed n)) l) (get_or_from_slice_get g r alternatives [] at) (All-get_or (All (All (IsNamed n))) g r [] (slice_get_within g r alternatives at) named) in
+      subst (λ (l : List Sym). All (IsNamed n) l) (get_or_from_slice_get alternatives a chosen [] inside) (All-get_or (All (IsNamed n)) alternatives a [] (slice_get_within alternatives a chosen inside) rule_named))
+
 -- the symbols of an alternative name rules that are there
 pub named_alternative : (g : Grammar) (r a : ℕ) (chosen : List Sym) → IsWellFormed g → alternative_of g r a ≡ Some chosen → All (IsNamed (length g)) chosen
-named_alternative g r a chosen well is =
-    option_and_then_some _ _ chosen is (λ alternatives at inside.
-      let rule_named = subst (λ (l : List (List Sym)). All (All (IsNamed (length g))) l) (get_or_from_slice_get g r alternatives [] at) (All-get_or (All (All (IsNamed (length g)))) g r [] (slice_get_within g r alternatives at) well.named) in
-      subst (λ (l : List Sym). All (IsNamed (length g)) l) (get_or_from_slice_get alternatives a chosen [] inside) (All-get_or (All (IsNamed (length g))) alternatives a [] (slice_get_within alternatives a chosen inside) rule_named))
+named_alternative g r a chosen well is = all_named g (length g) r a chosen well.named is
 
 -- a rule is replaced by the one alternative that the next token decides for
 pub IsProgress-expand : (g : Grammar) (before : List ℕ) (next r a : ℕ) (chosen rest : List Sym) (steps : List Step) → IsWellFormed g →

@@ -7,3 +7,6 @@ pub mod Marks
 pub mod Listing
 pub mod Passes
 pub mod Conflict
+pub mod Masks
+pub mod Ranks
+pub mod Example

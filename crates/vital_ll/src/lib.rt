@@ -6,6 +6,7 @@ mod beginnings;
 mod column;
 mod derivation;
 mod grammar;
+mod laws;
 mod listing;
 mod marks;
 mod passes;
@@ -17,5 +18,9 @@ mod width;
 
 pub use derivation::{Step, Tree};
 pub use grammar::{Alternative, Rule, RuleList, Sym};
+pub use laws::{masks_decide, masks_hold, ranks_derive};
 pub use prediction::{Rules, RulesError};
 pub use reading::{ParseError, parse};
+
+#[cfg(test)]
+mod tests;
