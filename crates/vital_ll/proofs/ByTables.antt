@@ -1,5 +1,5 @@
 -- Closed masks hold every choice set, and ranks show that each rule derives something.
-use Rattle.std.proofs.Common.{◌≡◌, ℕ, zero, suc, ◌+◌, ◌^◌, ◌<◌, ◌≤◌, min, max, Bool, true, false, not, ◌&&◌, ◌||◌, cond, eqb, ltb, leb, List, [], ◌∷◌, ◌++◌, length, get_or, Option, Some, None, IsTrue, is_some, slice_get, All, refl, sym, ap, ◌∙◌, subst, arith, inl, inr, ◌⊎◌, append_assoc}
+use Rattle.std.proofs.Common.{◌≡◌, ℕ, zero, suc, ◌+◌, ◌^◌, ◌<◌, ◌≤◌, min, max, Bool, true, false, not, ◌&&◌, ◌||◌, cond, eqb, ltb, leb, List, [], ◌∷◌, ◌++◌, length, get_or, Some, IsTrue, slice_get, All, refl, sym, ap, ◌∙◌, subst, arith, inl, inr}
 use Rattle.std.proofs.lemmas.Bool.{eqb-true, eq-eqb, ltb-true, leb-true, and_parts, or_cases}
 use Rattle.std.proofs.lemmas.List.Elements.{All-nil, All-cons, All-head, All-tail}
 use Rattle.std.proofs.lemmas.Nat.Bits.{bit_at_or, bit_at_and, bit_at-pow_same, bit_at-lt, bit_at-zero}
@@ -9,9 +9,8 @@ use Rattle.vital_ll.specs.declared.grammar.Sym.{Sym}
 use Rattle.vital_ll.specs.declared.grammar.Sym.TheVariants.{Token, Rule}
 use Rattle.vital_ll.specs.declared.derivation.Step.{Step}
 use Rattle.vital_ll.specs.Grammar.{Grammar, alternative_of, Derives, nothing, token, rule}
-use Rattle.vital_ll.specs.Sentence.{end_mark}
-use Rattle.vital_ll.specs.Choice.{CanBegin, CanBeEmpty, IsChoice, HasConflict, IsPredictive, IsNamed, IsWellFormed}
-use Rattle.vital_ll.specs.Marks.{Marks, empties, begins, EmptyClosed, FirstClosed, ReachClosed, FollowClosed}
+use Rattle.vital_ll.specs.Choice.{IsChoice, IsPredictive, IsNamed, IsWellFormed}
+use Rattle.vital_ll.specs.Marks.{Marks, empties, begins}
 use Rattle.vital_ll.specs.Masks.{MaskTable, nullable_at, first_at, follow_at, bit_of, is_within, mask_of, follows_within, is_closed_rule, are_closed_from, are_closed, are_apart, decides_from, decides, choice_mask}
 use Rattle.vital_ll.specs.Ranks.{names_below, alternatives_below, rules_below, ranks_lower, has_lower, are_ranked_from, are_ranked}
 use Rattle.vital_ll.proofs.Deriving.{Derives-append}
@@ -67,11 +66,12 @@ mask_has table t after b (Token u ∷ rest) h e =
     subst (λ (x : ℕ). bit_at (2 ^ bit_of u) (bit_of x) ≡ 1) (eqb-true u t e) (bit_at-pow_same (bit_of u))
 mask_has table t after b (Rule r ∷ rest) h e =
     elim (or_cases (first_marks table t r) (nullable_at table r && begins (nullable_at table) (first_marks table t) t b rest) e) [
-      inl f ↦ or_left_has (first_at table r) (cond (nullable_at table r) (mask_of table after rest) 0) t (marks_has (first_at table r) t f)
-    | inr f ↦
-        let p = and_parts (nullable_at table r) (begins (nullable_at table) (first_marks table t) t b rest) f in
-        or_right_has (first_at table r) (cond (nullable_at table r) (mask_of table after rest) 0) t
-          (subst (λ (x : Bool). Has (cond x (mask_of table after rest) 0) t) (sym p.0) (mask_has table t after b rest h p.1)) ]
+      | inl f ↦ or_left_has (first_at table r) (cond (nullable_at table r) (mask_of table after rest) 0) t (marks_has (first_at table r) t f)
+      | inr f ↦
+          let p = and_parts (nullable_at table r) (begins (nullable_at table) (first_marks table t) t b rest) f in
+          or_right_has (first_at table r) (cond (nullable_at table r) (mask_of table after rest) 0) t
+          (subst (λ (x : Bool). Has (cond x (mask_of table after rest) 0) t) (sym p.0) (mask_has table t after b rest h p.1))
+    ]
 
 -- what is known of an alternative of a rule whose masks are closed
 record RuleClosed (table : MaskTable) (r : ℕ) (c : List Sym) : Type 0 where
@@ -124,21 +124,22 @@ marks_closed g table t e =
     record {
       empty_closed = λ r a chosen is f. (closed_at g table r a chosen p.1 is).empty f;
       first_closed = λ r a chosen is f.
-        has_marks (first_at table r) t (within_has (mask_of table 0 chosen) (first_at table r) t (closed_at g table r a chosen p.1 is).first
+          has_marks (first_at table r) t (within_has (mask_of table 0 chosen) (first_at table r) t (closed_at g table r a chosen p.1 is).first
           (mask_has table t 0 false chosen (λ (x : false ≡ true). absurd (cc)) f));
       reach_closed = λ r a s before after is f. refl;
       follow_closed = λ r a s before after is f on.
-        has_marks (follow_at table s) t (follows_has table (follow_at table r) t (follow_marks table t r) before after s (closed_at g table r a (before ++ Rule s ∷ after) p.1 is).follows
+          has_marks (follow_at table s) t (follows_has table (follow_at table r) t (follow_marks table t r) before after s (closed_at g table r a (before ++ Rule s ∷ after) p.1 is).follows
           (λ x. marks_has (follow_at table r) t x) on);
       at_first = refl;
       at_end = λ x. has_marks (follow_at table 0) t (within_has 1 (follow_at table 0) t p.0
-        (subst (λ (y : ℕ). bit_at 1 (bit_of y) ≡ 1) (sym x) refl)) }
+          (subst (λ (y : ℕ). bit_at 1 (bit_of y) ≡ 1) (sym x) refl));
+    }
 
 -- each token of a choice set is in the mask
 pub mask_holds : (g : Grammar) (table : MaskTable) (r a t : ℕ) (chosen : List Sym) → are_closed g table ≡ true → alternative_of g r a ≡ Some chosen → IsChoice g r a t → Has (choice_mask table r chosen) t
 mask_holds g table r a t chosen e is h =
     mask_has table t (follow_at table r) (follow_marks table t r) chosen (λ x. marks_has (follow_at table r) t x)
-      (choice_marked g (nullable_at table) (first_marks table t) (λ r. true) (follow_marks table t) t r a chosen (marks_closed g table t e) is h)
+    (choice_marked g (nullable_at table) (first_marks table t) (λ r. true) (follow_marks table t) t r a chosen (marks_closed g table t e) is h)
 
 -- masks that are apart share no token
 apart_seen : (table : MaskTable) (after seen t : ℕ) (alternatives : List (List Sym)) (a : ℕ) (c : List Sym) → are_apart table after seen alternatives ≡ true → slice_get alternatives a ≡ Some c →
@@ -160,12 +161,12 @@ apart_pair table after seen t (x ∷ alternatives) zero (suc b) c d e at bt ne h
     let p = and_parts (eqb (bit_and (mask_of table after x) seen) 0) (are_apart table after (bit_or (mask_of table after x) seen) alternatives) e in
     let same : c ≡ x = cc in
     apart_seen table after (bit_or (mask_of table after x) seen) t alternatives b d p.1 bt k
-      (or_left_has (mask_of table after x) seen t (subst (λ (l : List Sym). Has (mask_of table after l) t) same h))
+    (or_left_has (mask_of table after x) seen t (subst (λ (l : List Sym). Has (mask_of table after l) t) same h))
 apart_pair table after seen t (x ∷ alternatives) (suc a) zero c d e at bt ne h k =
     let p = and_parts (eqb (bit_and (mask_of table after x) seen) 0) (are_apart table after (bit_or (mask_of table after x) seen) alternatives) e in
     let same : d ≡ x = cc in
     apart_seen table after (bit_or (mask_of table after x) seen) t alternatives a c p.1 at h
-      (or_left_has (mask_of table after x) seen t (subst (λ (l : List Sym). Has (mask_of table after l) t) same k))
+    (or_left_has (mask_of table after x) seen t (subst (λ (l : List Sym). Has (mask_of table after l) t) same k))
 apart_pair table after seen t (x ∷ alternatives) (suc a) (suc b) c d e at bt ne h k =
     let p = and_parts (eqb (bit_and (mask_of table after x) seen) 0) (are_apart table after (bit_or (mask_of table after x) seen) alternatives) e in
     apart_pair table after (bit_or (mask_of table after x) seen) t alternatives a b c d p.1 at bt (λ s. ne (ap suc s)) h k
@@ -177,20 +178,20 @@ decides_pair table n (alternatives ∷ rules) zero a b t c d e at bt ne h k =
     let p = and_parts (are_apart table (follow_at table n) 0 alternatives) (decides_from table (n + 1) rules) e in
     let f : n + 0 ≡ n = omega arith in
     apart_pair table (follow_at table n) 0 t alternatives a b c d p.0 at bt ne
-      (subst (λ (x : ℕ). Has (mask_of table (follow_at table x) c) t) f h) (subst (λ (x : ℕ). Has (mask_of table (follow_at table x) d) t) f k)
+    (subst (λ (x : ℕ). Has (mask_of table (follow_at table x) c) t) f h) (subst (λ (x : ℕ). Has (mask_of table (follow_at table x) d) t) f k)
 decides_pair table n (alternatives ∷ rules) (suc r) a b t c d e at bt ne h k =
     let p = and_parts (are_apart table (follow_at table n) 0 alternatives) (decides_from table (n + 1) rules) e in
     let f : n + suc r ≡ (n + 1) + r = omega arith in
     decides_pair table (n + 1) rules r a b t c d p.1 at bt ne
-      (subst (λ (x : ℕ). Has (mask_of table (follow_at table x) c) t) f h) (subst (λ (x : ℕ). Has (mask_of table (follow_at table x) d) t) f k)
+    (subst (λ (x : ℕ). Has (mask_of table (follow_at table x) c) t) f h) (subst (λ (x : ℕ). Has (mask_of table (follow_at table x) d) t) f k)
 
 -- masks that are closed and do not meet show that the grammar is predictive
 pub predictive_by_masks : (g : Grammar) (table : MaskTable) → IsTrue (are_closed g table) → IsTrue (decides g table) → IsPredictive g
 predictive_by_masks g table closed apart r (a, b, t, ne, has_a, has_b) =
     let f : r ≡ 0 + r = omega arith in
     decides_pair table 0 g r a b t has_a.0 has_b.0 apart has_a.1 has_b.1 ne
-      (subst (λ (x : ℕ). Has (mask_of table (follow_at table x) has_a.0) t) f (mask_holds g table r a t has_a.0 closed has_a.1 has_a))
-      (subst (λ (x : ℕ). Has (mask_of table (follow_at table x) has_b.0) t) f (mask_holds g table r b t has_b.0 closed has_b.1 has_b))
+    (subst (λ (x : ℕ). Has (mask_of table (follow_at table x) has_a.0) t) f (mask_holds g table r a t has_a.0 closed has_a.1 has_a))
+    (subst (λ (x : ℕ). Has (mask_of table (follow_at table x) has_b.0) t) f (mask_holds g table r b t has_b.0 closed has_b.1 has_b))
 
 -- symbols that name rules below n
 names_all : (n : ℕ) (symbols : List Sym) → names_below n symbols ≡ true → All (IsNamed n) symbols
@@ -225,8 +226,9 @@ lower_of : (ranks : List ℕ) (rank : ℕ) (alternatives : List (List Sym)) → 
 lower_of ranks rank [] e = absurd (cc)
 lower_of ranks rank (c ∷ alternatives) e =
     elim (or_cases (ranks_lower ranks rank c) (has_lower ranks rank alternatives) e) [
-      inl f ↦ record { a = 0; chosen = c; is = refl; lower = f }
-    | inr f ↦ let l = lower_of ranks rank alternatives f in record { a = suc l.a; chosen = l.chosen; is = l.is; lower = l.lower } ]
+      | inl f ↦ record { a = 0; chosen = c; is = refl; lower = f }
+      | inr f ↦ let l = lower_of ranks rank alternatives f in record { a = suc l.a; chosen = l.chosen; is = l.is; lower = l.lower }
+    ]
 
 ranked_from : (ranks : List ℕ) (n : ℕ) (rules : Grammar) (r : ℕ) → are_ranked_from ranks n rules ≡ true → r < length rules →
     (a : ℕ) × (chosen : List Sym) × (alternative_of rules r a ≡ Some chosen) × (ranks_lower ranks (get_or ranks (n + r) 0) chosen ≡ true)
@@ -261,7 +263,7 @@ derives_by_rank g ranks named e (suc n) r inside h =
     let l = ranked_from ranks 0 g r e inside in
     let lower = subst (λ (x : ℕ). ranks_lower ranks (get_or ranks x 0) l.1 ≡ true) (let f : 0 + r ≡ r = omega arith in f) l.3 in
     let d = derives_each g ranks (get_or ranks r 0) l.1 lower (all_named g (length g) r l.0 l.1 named l.2)
-      (λ s low k. derives_by_rank g ranks named e n s low (omega arith)) in
+    (λ s low k. derives_by_rank g ranks named e n s low (omega arith)) in
     (d.0 ++ [], _, rule l.2 d.2 nothing)
 
 pub well_formed_by_ranks : (g : Grammar) (ranks : List ℕ) → IsTrue (are_ranked g ranks) → IsWellFormed g
@@ -271,5 +273,9 @@ well_formed_by_ranks g ranks e =
     let s = and_parts (ltb 0 (length g)) (leb (length g) 65535) q.0 in
     let all = rules_all (length g) g q.1 in
     record {
-      some_rule = ltb-true 0 (length g) s.0; few_rules = leb-true (length g) 65535 s.1; few_alternatives = all.0; named = all.1;
-      derives = λ r inside. derives_by_rank g ranks all.1 p.1 (get_or ranks r 0 + 1) r inside (omega arith) }
+      some_rule = ltb-true 0 (length g) s.0;
+      few_rules = leb-true (length g) 65535 s.1;
+      few_alternatives = all.0;
+      named = all.1;
+      derives = λ r inside. derives_by_rank g ranks all.1 p.1 (get_or ranks r 0 + 1) r inside (omega arith);
+    }

@@ -1,5 +1,5 @@
 -- The entry of the table that decides for the next token.
-use Rattle.std.proofs.Common.{◌≡◌, ℕ, ◌+◌, ◌*◌, ◌<◌, ◌≤◌, List, length, get_or, Option, Some, None, IfSome, IsSome, unwrap_or, refl, sym, ap, ◌∙◌, subst, arith, ◌⊎◌, inl, inr}
+use Rattle.std.proofs.Common.{◌≡◌, ℕ, ◌+◌, ◌*◌, ◌<◌, ◌≤◌, List, length, get_or, Option, Some, None, IfSome, IsSome, unwrap_or, refl, sym, ◌∙◌, subst, arith, inl, inr}
 use Rattle.std.proofs.lemmas.List.{get_or_read}
 use Rattle.std.proofs.lemmas.Nat.{mul-add-lt}
 use Rattle.std.proofs.Math.Nat.{mul_comm}
@@ -65,5 +65,5 @@ entry_there g h width table r column next read same table_is there column_is is 
     let there_h = subst (λ (x : Grammar). r < length x) (sym same) there in
     let within = column_within width column next column_is in
     if_some (λ a. IsSome (alternative_of g r a)) read (λ a e.
-      subst (λ (x : Grammar). IsSome (alternative_of x r a)) same
-        (table_is.there r column a there_h within (sym (entry_read width table (length h) r column read table_is.size there_h within is) ∙ e)))
+    subst (λ (x : Grammar). IsSome (alternative_of x r a)) same
+    (table_is.there r column a there_h within (sym (entry_read width table (length h) r column read table_is.size there_h within is) ∙ e)))

@@ -1,18 +1,17 @@
 -- How the table is filled.
-use Rattle.std.proofs.Common.{◌≡◌, ℕ, zero, suc, ◌+◌, ◌*◌, ◌<◌, ◌≤◌, min, Bool, true, false, cond, List, [], ◌∷◌, ◌++◌, length, get_or, set, take, Option, Some, None, IsSome, is_some, slice_get, All, Contains, refl, sym, ap, ◌∙◌, subst, arith, inl, inr, ◌⊎◌, eqb}
-use Rattle.std.proofs.lemmas.List.{take_more, get_or-set_same, get_or-set_other, length-set, get_or_append_left, get_or-append_right, length-append, get_or-append-add}
+use Rattle.std.proofs.Common.{◌≡◌, ℕ, ◌+◌, ◌*◌, ◌<◌, ◌≤◌, min, Bool, true, false, cond, List, [], ◌∷◌, ◌++◌, length, get_or, set, take, Option, Some, None, is_some, All, Contains, refl, sym, ap, ◌∙◌, subst, arith, inl, inr, ◌⊎◌}
+use Rattle.std.proofs.lemmas.List.{take_more, get_or-set_same, get_or-set_other, length-set, get_or_append_left, length-append, get_or-append-add}
 use Rattle.std.proofs.lemmas.Nat.{mul-add-lt}
 use Rattle.std.proofs.Math.Nat.{mul_comm}
-use Rattle.std.proofs.lemmas.List.Elements.{Contains-push, Contains-append_left, Contains-push_cases, All-head, All-tail, All-get_or, All-append, All-cons, All-nil, All-weaker, All-more}
+use Rattle.std.proofs.lemmas.List.Elements.{Contains-push_cases, All-head, All-tail, All-append, All-cons, All-nil, All-weaker, All-more}
 use Rattle.std.proofs.lemmas.Bool.{cases_eq, cases_lt, eq-eqb, ne_eqb}
-use Rattle.std.proofs.lemmas.Option.{option_and_then_some, slice_get_within, get_or_from_slice_get}
 use Rattle.vital_ll.specs.declared.grammar.Sym.{Sym}
 use Rattle.vital_ll.specs.declared.grammar.Sym.TheVariants.{Token, Rule}
 use Rattle.vital_ll.specs.declared.derivation.Step.{Step}
 use Rattle.vital_ll.specs.Grammar.{Grammar, alternative_of, Derives, nothing, token, rule}
 use Rattle.vital_ll.specs.Sentence.{end_mark}
-use Rattle.vital_ll.specs.Choice.{CanBegin, CanBeEmpty, IsForm, start, replaced, Follows, IsChoice, HasConflict, IsPredictive, IsFirstConflict, IsWellFormed}
-use Rattle.vital_ll.specs.Marks.{Marks, marked, begins}
+use Rattle.vital_ll.specs.Choice.{IsForm, start, replaced, IsChoice, HasConflict, IsPredictive, IsFirstConflict, IsWellFormed}
+use Rattle.vital_ll.specs.Marks.{marked, begins}
 use Rattle.vital_ll.specs.Listing.{step, ListsSteps}
 use Rattle.vital_ll.specs.Passes.{AreSets}
 use Rattle.vital_ll.proofs.Listings.{bounds_of}
@@ -30,10 +29,15 @@ one_more steps i s d r a inside s_is h =
 pub column_skip : (g : Grammar) (t : ℕ) (steps : List Step) (i : ℕ) (s d : Step) (before clear : ℕ) (choices : List (Option ℕ)) → i < length steps → s ≡ get_or steps i d →
     (IsChoice g s.rule s.alternative t → ⊥) → IsColumn g t (take i steps) before choices clear → IsColumn g t (take (i + 1) steps) before choices clear
 column_skip g t steps i s d before clear choices inside s_is lacks c = record {
-  size = c.size; lower = c.lower; sound = c.sound; meets = c.meets;
+  size = c.size;
+  lower = c.lower;
+  sound = c.sound;
+  meets = c.meets;
   complete = λ r a low h chosen. elim (one_more steps i s d r a inside s_is h) [
-      inl f ↦ c.complete r a low f chosen
-    | inr e ↦ absurd (lacks (subst (λ (x : Step). IsChoice g x.rule x.alternative t) (sym e) chosen)) ] }
+    | inl f ↦ c.complete r a low f chosen
+    | inr e ↦ absurd (lacks (subst (λ (x : Step). IsChoice g x.rule x.alternative t) (sym e) chosen))
+  ];
+}
 
 min_cases : (a b : ℕ) → (min a b ≡ a) ⊎ ((min a b ≡ b) × (b ≤ a))
 min_cases a b = elim (cases_lt a b) [ inl h ↦ inl (omega arith) | inr h ↦ inr (omega arith, h) ]
@@ -43,45 +47,58 @@ pub column_add : (g : Grammar) (t : ℕ) (steps : List Step) (i : ℕ) (s d : St
     IsChoice g s.rule s.alternative t → IsAdded old new old_clear clear s → IsColumn g t (take i steps) before old old_clear → IsColumn g t (take (i + 1) steps) before new clear
 column_add g t steps i s d before old_clear clear old new inside s_is low chosen (inl (other, new_is, clear_is)) c =
     subst (λ (l : List (Option ℕ)). IsColumn g t (take (i + 1) steps) before l clear) (sym new_is)
-      (subst (λ (x : ℕ). IsColumn g t (take (i + 1) steps) before old x) (sym clear_is) (record {
-        size = c.size;
-        lower = let h = c.lower in omega arith;
-        sound = c.sound;
-        complete = λ r a below h is. elim (one_more steps i s d r a inside s_is h) [
-            inl f ↦ c.complete r a (omega arith) f is
-          | inr e ↦ absurd (let x : s.rule ≡ r = ap (λ (q : Step). q.rule) e in omega arith) ];
-        meets = elim (min_cases old_clear s.rule) [
-            inl e ↦ subst (λ (x : ℕ). (x ≡ before) ⊎ HasConflict g x) (sym e) c.meets
-          | inr (e, h) ↦ inr (subst (λ (x : ℕ). HasConflict g x) (sym e) (other.0, s.alternative, t, other.2, c.sound s.rule other.0 other.1, chosen)) ] }))
+    (subst (λ (x : ℕ). IsColumn g t (take (i + 1) steps) before old x) (sym clear_is) (record {
+      size = c.size;
+      lower = let h = c.lower in omega arith;
+      sound = c.sound;
+      complete = λ r a below h is. elim (one_more steps i s d r a inside s_is h) [
+        | inl f ↦ c.complete r a (omega arith) f is
+        | inr e ↦ absurd (let x : s.rule ≡ r = ap (λ (q : Step). q.rule) e in omega arith)
+      ];
+      meets = elim (min_cases old_clear s.rule) [
+        | inl e ↦ subst (λ (x : ℕ). (x ≡ before) ⊎ HasConflict g x) (sym e) c.meets
+        | inr (e, h) ↦ inr (subst (λ (x : ℕ). HasConflict g x) (sym e) (other.0, s.alternative, t, other.2, c.sound s.rule other.0 other.1, chosen))
+      ];
+    }))
 column_add g t steps i s d before old_clear clear old new inside s_is low chosen (inr (none, new_is, clear_is)) c =
     subst (λ (l : List (Option ℕ)). IsColumn g t (take (i + 1) steps) before l clear) (sym new_is)
-      (subst (λ (x : ℕ). IsColumn g t (take (i + 1) steps) before (set old s.rule (Some s.alternative)) x) (sym clear_is) (record {
-        size = length-set old s.rule (Some s.alternative) ∙ c.size;
-        lower = c.lower;
-        sound = λ r a h. elim (cases_eq r s.rule) [
-            inl e ↦
-              let same : Some s.alternative ≡ Some a = sym here ∙ ap (λ (x : ℕ). get_or (set old s.rule (Some s.alternative)) x None) (sym e) ∙ h in
-              let a_is : s.alternative ≡ a = cc in
-              subst (λ (x : ℕ). IsChoice g r x t) a_is (subst (λ (x : ℕ). IsChoice g x s.alternative t) (sym e) chosen)
-          | inr n ↦ c.sound r a (sym (get_or-set_other old s.rule r (Some s.alternative) None n) ∙ h) ];
-        complete = λ r a below h is. elim (cases_eq r s.rule) [
-            inl e ↦ elim (one_more steps i s d r a inside s_is h) [
-                inl f ↦
-                  let was : get_or old s.rule None ≡ Some a = ap (λ (x : ℕ). get_or old x None) (sym e) ∙ c.complete r a below f is in
-                  ap (λ (x : ℕ). get_or (set old s.rule (Some s.alternative)) x None) e ∙ here ∙ ap Some (sym (none a was))
-              | inr f ↦ ap (λ (x : ℕ). get_or (set old s.rule (Some s.alternative)) x None) e ∙ here ∙ ap (λ (q : Step). Some (q.alternative)) f ]
-          | inr n ↦ get_or-set_other old s.rule r (Some s.alternative) None n ∙ elim (one_more steps i s d r a inside s_is h) [
-                inl f ↦ c.complete r a below f is
-              | inr f ↦ absurd (n (sym (ap (λ (q : Step). q.rule) f))) ] ];
-        meets = c.meets }))
-    where
-      here : get_or (set old s.rule (Some s.alternative)) s.rule None ≡ Some s.alternative
-      here = get_or-set_same old s.rule (Some s.alternative) None (let h = c.size in omega arith)
+    (subst (λ (x : ℕ). IsColumn g t (take (i + 1) steps) before (set old s.rule (Some s.alternative)) x) (sym clear_is) (record {
+      size = length-set old s.rule (Some s.alternative) ∙ c.size;
+      lower = c.lower;
+      sound = λ r a h. elim (cases_eq r s.rule) [
+        | inl e ↦
+            let same : Some s.alternative ≡ Some a = sym here ∙ ap (λ (x : ℕ). get_or (set old s.rule (Some s.alternative)) x None) (sym e) ∙ h in
+            let a_is : s.alternative ≡ a = cc in
+            subst (λ (x : ℕ). IsChoice g r x t) a_is (subst (λ (x : ℕ). IsChoice g x s.alternative t) (sym e) chosen)
+        | inr n ↦ c.sound r a (sym (get_or-set_other old s.rule r (Some s.alternative) None n) ∙ h)
+      ];
+      complete = λ r a below h is. elim (cases_eq r s.rule) [
+        | inl e ↦ elim (one_more steps i s d r a inside s_is h) [
+          | inl f ↦
+              let was : get_or old s.rule None ≡ Some a = ap (λ (x : ℕ). get_or old x None) (sym e) ∙ c.complete r a below f is in
+              ap (λ (x : ℕ). get_or (set old s.rule (Some s.alternative)) x None) e ∙ here ∙ ap Some (sym (none a was))
+          | inr f ↦ ap (λ (x : ℕ). get_or (set old s.rule (Some s.alternative)) x None) e ∙ here ∙ ap (λ (q : Step). Some (q.alternative)) f
+        ]
+        | inr n ↦ get_or-set_other old s.rule r (Some s.alternative) None n ∙ elim (one_more steps i s d r a inside s_is h) [
+          | inl f ↦ c.complete r a below f is
+          | inr f ↦ absurd (n (sym (ap (λ (q : Step). q.rule) f)))
+        ]
+      ];
+      meets = c.meets;
+    }))
+  where
+    here : get_or (set old s.rule (Some s.alternative)) s.rule None ≡ Some s.alternative
+    here = get_or-set_same old s.rule (Some s.alternative) None (let h = c.size in omega arith)
 
 closed_sets : (g : Grammar) (t : ℕ) (nullable first reached follow : List Bool) → AreSets g t nullable first reached follow → AreClosed g (marked nullable) (marked first) (marked reached) (marked follow) t
 closed_sets g t nullable first reached follow s = record {
-  empty_closed = s.nullable_is.closed; first_closed = s.first_is.closed; reach_closed = s.reached_is.closed; follow_closed = s.follow_is.closed;
-  at_first = s.reached_is.at_first; at_end = s.follow_is.at_end }
+  empty_closed = s.nullable_is.closed;
+  first_closed = s.first_is.closed;
+  reach_closed = s.reached_is.closed;
+  follow_closed = s.follow_is.closed;
+  at_first = s.reached_is.at_first;
+  at_end = s.follow_is.at_end;
+}
 
 -- what the test of a step says
 pub lacks_choice : (g : Grammar) (t : ℕ) (nullable first reached follow : List Bool) (r a : ℕ) (chosen : List Sym) → AreSets g t nullable first reached follow → alternative_of g r a ≡ Some chosen →
@@ -115,9 +132,10 @@ pub width_more : (g : Grammar) (steps : List Step) (i m n : ℕ) (s d : Step) (f
     (q : Step) (chosen : List Sym) → Contains (take (i + 1) steps) q → alternative_of g q.rule q.alternative ≡ Some chosen → All (IsBelow n) chosen
 width_more g steps i m n s d found inside s_is h is all before q chosen contained chosen_is =
     elim (one_more steps i s d q.rule q.alternative inside s_is contained) [
-      inl f ↦ all_wider m n chosen h (before q chosen f chosen_is)
-    | inr e ↦ subst (λ (l : List Sym). All (IsBelow n) l)
-        (let same : found ≡ chosen = let f : alternative_of g s.rule s.alternative ≡ alternative_of g q.rule q.alternative = ap (λ (x : Step). alternative_of g x.rule x.alternative) e in cc in same) all ]
+      | inl f ↦ all_wider m n chosen h (before q chosen f chosen_is)
+      | inr e ↦ subst (λ (l : List Sym). All (IsBelow n) l)
+          (let same : found ≡ chosen = let f : alternative_of g s.rule s.alternative ≡ alternative_of g q.rule q.alternative = ap (λ (x : Step). alternative_of g x.rule x.alternative) e in cc in same) all
+    ]
 
 -- a token that is below the width, or the end mark
 abbrev IsKnownBelow : ℕ → Sym → Type 0
@@ -130,10 +148,10 @@ NamesBelow g w = (r a : ℕ) (chosen : List Sym) → alternative_of g r a ≡ So
 
 known_below : (w : ℕ) (symbols : List Sym) → All (IsBelow w) symbols → All (IsKnownBelow w) symbols
 known_below w symbols = All-weaker (IsBelow w) (IsKnownBelow w) known symbols
-    where
-      known : (x : Sym) → IsBelow w x → IsKnownBelow w x
-      known (Token u) h = inl h
-      known (Rule r) h = tt
+  where
+    known : (x : Sym) → IsBelow w x → IsKnownBelow w x
+    known (Token u) h = inl h
+    known (Rule r) h = tt
 
 -- so is each token of a form
 form_known : (g : Grammar) (w : ℕ) {form : List Sym} → NamesBelow g w → IsForm g form → All (IsKnownBelow w) form
@@ -141,8 +159,8 @@ form_known g w below start = All-cons (IsKnownBelow w) (Rule 0) (Token end_mark 
 form_known g w below (replaced before after chosen r a form is) =
     let known = form_known g w below form in
     All-append (IsKnownBelow w) before (chosen ++ after) (all_front (IsKnownBelow w) before (Rule r ∷ after) known)
-      (All-append (IsKnownBelow w) chosen after (known_below w chosen (below r a chosen is))
-        (All-tail (IsKnownBelow w) (Rule r) after (all_back (IsKnownBelow w) before (Rule r ∷ after) known)))
+    (All-append (IsKnownBelow w) chosen after (known_below w chosen (below r a chosen is))
+    (All-tail (IsKnownBelow w) (Rule r) after (all_back (IsKnownBelow w) before (Rule r ∷ after) known)))
 
 -- and each token with which such symbols begin
 begin_known : {g : Grammar} (w : ℕ) {symbols : List Sym} {tokens : List ℕ} {tree : List Step} → NamesBelow g w → Derives g symbols tokens tree → All (IsKnownBelow w) symbols →
@@ -153,19 +171,20 @@ begin_known w below (token {t = u} {rest = rest} d) known t more e =
     subst (λ (x : ℕ). (x < w) ⊎ (x ≡ end_mark)) same (All-head (IsKnownBelow w) (Token u) rest known)
 begin_known {g} w below (rule {r = r} {a = a} {chosen = chosen} {rest = rest} {us = us} {vs = vs} is d later) known t more e =
     go us e (λ m f. begin_known w below d (known_below w chosen (below r a chosen is)) t m f)
-      (λ m f. begin_known w below later (All-tail (IsKnownBelow w) (Rule r) rest known) t m f)
-    where
-      go : (us : List ℕ) → us ++ vs ≡ t ∷ more → ((m : List ℕ) → us ≡ t ∷ m → (t < w) ⊎ (t ≡ end_mark)) → ((m : List ℕ) → vs ≡ t ∷ m → (t < w) ⊎ (t ≡ end_mark)) → (t < w) ⊎ (t ≡ end_mark)
-      go [] f first second = second more f
-      go (u ∷ us) f first second = first us (let same : u ≡ t = cc in ap (λ (x : ℕ). x ∷ us) same)
+    (λ m f. begin_known w below later (All-tail (IsKnownBelow w) (Rule r) rest known) t m f)
+  where
+    go : (us : List ℕ) → us ++ vs ≡ t ∷ more → ((m : List ℕ) → us ≡ t ∷ m → (t < w) ⊎ (t ≡ end_mark)) → ((m : List ℕ) → vs ≡ t ∷ m → (t < w) ⊎ (t ≡ end_mark)) → (t < w) ⊎ (t ≡ end_mark)
+    go [] f first second = second more f
+    go (u ∷ us) f first second = first us (let same : u ≡ t = cc in ap (λ (x : ℕ). x ∷ us) same)
 
 -- so the tokens of the choice sets are below the width, or the end mark
 pub choice_known : (g : Grammar) (w r a t : ℕ) → NamesBelow g w → IsChoice g r a t → (t < w) ⊎ (t ≡ end_mark)
 choice_known g w r a t below (chosen, is, how) =
     elim how [
-      inl (more, tree, d) ↦ begin_known w below d (known_below w chosen (below r a chosen is)) t more refl
-    | inr (empty, (before, after, form, (more, tree, d))) ↦
-        begin_known w below d (All-tail (IsKnownBelow w) (Rule r) after (all_back (IsKnownBelow w) before (Rule r ∷ after) (form_known g w below form))) t more refl ]
+      | inl (more, tree, d) ↦ begin_known w below d (known_below w chosen (below r a chosen is)) t more refl
+      | inr (empty, (before, after, form, (more, tree, d))) ↦
+          begin_known w below d (All-tail (IsKnownBelow w) (Rule r) after (all_back (IsKnownBelow w) before (Rule r ∷ after) (form_known g w below form))) t more refl
+    ]
 
 pub names_below : (g : Grammar) (w : ℕ) (steps : List Step) → ListsSteps g steps →
     ((q : Step) (chosen : List Sym) → Contains steps q → alternative_of g q.rule q.alternative ≡ Some chosen → All (IsBelow w) chosen) → NamesBelow g w
@@ -194,21 +213,25 @@ no_conflict g w table clear r below filled h (a, b, t, other, has_a, has_b) =
 pub first_conflict : (g : Grammar) (w : ℕ) (table : List (Option ℕ)) (clear : ℕ) → NamesBelow g w → IsFilled g w (w + 1) table clear → clear < length g → IsFirstConflict g clear
 first_conflict g w table clear below filled low = record {
   meets = elim filled.meets [ inl e ↦ absurd (omega arith) | inr h ↦ h ];
-  least = λ s h. no_conflict g w table clear s below filled h }
+  least = λ s h. no_conflict g w table clear s below filled h;
+}
 
 pub predictive : (g : Grammar) (w : ℕ) (table : List (Option ℕ)) (clear : ℕ) → NamesBelow g w → IsFilled g w (w + 1) table clear → length g ≤ clear → IsPredictive g
 predictive g w table clear below filled past r h =
     let inside = conflict_there g r h in no_conflict g w table clear r below filled (omega arith) h
-    where
-      conflict_there : (g : Grammar) (r : ℕ) → HasConflict g r → r < length g
-      conflict_there g r (a, b, t, other, (chosen, is, how), has_b) = rule_there g r a chosen is
+  where
+    conflict_there : (g : Grammar) (r : ℕ) → HasConflict g r → r < length g
+    conflict_there g r (a, b, t, other, (chosen, is, how), has_b) = rule_there g r a chosen is
 
 pub table_made : (g : Grammar) (w : ℕ) (table : List (Option ℕ)) (clear : ℕ) → IsWellFormed g → w ≤ 65536 → NamesBelow g w → IsFilled g w (w + 1) table clear → length g ≤ clear → IsTable g w table
 table_made g w table clear well narrow below filled past = record {
-  well_formed = well; narrow = narrow; size = filled.size;
+  well_formed = well;
+  narrow = narrow;
+  size = filled.size;
   there = λ r column a h k. filled.there r column a h (omega arith);
   only = λ r a column h k. filled.only r a column (omega arith) (omega arith);
-  named = λ r a t. choice_known g w r a t below }
+  named = λ r a t. choice_known g w r a t below;
+}
 
 in_table : (n r column columns : ℕ) → r < n → column < columns → column * n + r < columns * n
 in_table n r column columns low h =
@@ -231,20 +254,24 @@ fill_more g w columns steps table choices clear after lists f c = record {
   size = length-append table choices ∙ (let s = f.size in let t = c.size in let e : (columns + 1) * length g ≡ columns * length g + length g = omega arith in omega arith);
   lower = let h = f.lower in let k = c.lower in omega arith;
   there = λ r column a low h is. elim (cases_eq column columns) [
-      inl e ↦
+    | inl e ↦
         let chosen = c.sound r a (sym (entry_new (length g) r columns table choices f.size) ∙ ap (λ (x : ℕ). entry (length g) (table ++ choices) r x) (sym e) ∙ is) in
         ap is_some chosen.1
-    | inr d ↦ f.there r column a low (omega arith) (sym (entry_old (length g) r column columns table choices f.size low (omega arith)) ∙ is) ];
+    | inr d ↦ f.there r column a low (omega arith) (sym (entry_old (length g) r column columns table choices f.size low (omega arith)) ∙ is)
+  ];
   only = λ r a column low h chosen. elim (cases_eq column columns) [
-      inl e ↦
+    | inl e ↦
         let here = subst (λ (x : ℕ). IsChoice g r a (token_of w x)) e chosen in
         ap (λ (x : ℕ). entry (length g) (table ++ choices) r x) e ∙ entry_new (length g) r columns table choices f.size ∙ c.complete r a low (lists.complete r a (ap is_some chosen.1)) here
     | inr d ↦
         let there : r < length g = rule_there g r a chosen.0 chosen.1 in
-        entry_old (length g) r column columns table choices f.size there (omega arith) ∙ f.only r a column (let k = c.lower in omega arith) (omega arith) chosen ];
+        entry_old (length g) r column columns table choices f.size there (omega arith) ∙ f.only r a column (let k = c.lower in omega arith) (omega arith) chosen
+  ];
   meets = elim c.meets [
-      inl e ↦ subst (λ (x : ℕ). (x ≡ length g) ⊎ HasConflict g x) (sym e) f.meets
-    | inr h ↦ inr h ] }
+    | inl e ↦ subst (λ (x : ℕ). (x ≡ length g) ⊎ HasConflict g x) (sym e) f.meets
+    | inr h ↦ inr h
+  ];
+}
 
 pub fill_none : (g : Grammar) (w : ℕ) (table : List (Option ℕ)) (clear : ℕ) → table ≡ [] → clear ≡ length g → IsFilled g w 0 table clear
 fill_none g w table clear table_is clear_is = record {
@@ -252,4 +279,5 @@ fill_none g w table clear table_is clear_is = record {
   lower = omega arith;
   there = λ r column a low h is. absurd (omega arith);
   only = λ r a column low h chosen. absurd (omega arith);
-  meets = inl clear_is }
+  meets = inl clear_is;
+}

@@ -1,5 +1,5 @@
 -- The marks that the passes end with.
-use Rattle.std.proofs.Common.{◌≡◌, ℕ, zero, suc, ◌+◌, ◌<◌, ◌≤◌, Bool, true, false, List, [], ◌∷◌, ◌++◌, length, get_or, set, replicate, Option, Some, None, is_some, slice_get, Contains, refl, sym, ap, ◌∙◌, subst, arith, inl, inr, ◌⊎◌}
+use Rattle.std.proofs.Common.{◌≡◌, ℕ, zero, suc, ◌<◌, Bool, true, false, List, [], ◌∷◌, ◌++◌, length, get_or, set, replicate, Some, is_some, slice_get, Contains, refl, sym, ap, ◌∙◌, subst, arith}
 use Rattle.std.proofs.lemmas.List.{length-append}
 use Rattle.std.proofs.lemmas.List.Elements.{at_from_Contains}
 use Rattle.std.proofs.lemmas.Option.{slice_get-get_or}
@@ -7,12 +7,12 @@ use Rattle.vital_ll.specs.declared.grammar.Sym.{Sym}
 use Rattle.vital_ll.specs.declared.grammar.Sym.TheVariants.{Token, Rule}
 use Rattle.vital_ll.specs.declared.derivation.Step.{Step}
 use Rattle.vital_ll.specs.declared.listing.Place.{Place}
-use Rattle.vital_ll.specs.Grammar.{Grammar, alternative_of, Derives, nothing, token}
+use Rattle.vital_ll.specs.Grammar.{Grammar, alternative_of, nothing, token}
 use Rattle.vital_ll.specs.Sentence.{end_mark}
-use Rattle.vital_ll.specs.Choice.{CanBegin, CanBeEmpty, IsForm, start, Follows, IsWellFormed}
-use Rattle.vital_ll.specs.Marks.{Marks, marked, empties, begins, IsSaturated, IsReached}
+use Rattle.vital_ll.specs.Choice.{CanBegin, CanBeEmpty, start, Follows, IsWellFormed}
+use Rattle.vital_ll.specs.Marks.{marked, IsSaturated, IsReached}
 use Rattle.vital_ll.specs.Listing.{step, place, ListsSteps, ListsPlaces}
-use Rattle.vital_ll.specs.Passes.{At, EmptyAt, FirstAt, IsNamedAt, ReachAt, FollowAt, FollowsFrom, AreNullable, AreFirst, AreReached, AreFollowed}
+use Rattle.vital_ll.specs.Passes.{At, EmptyAt, FirstAt, ReachAt, FollowAt, FollowsFrom, AreNullable, AreFirst, AreReached, AreFollowed}
 
 listed_at : {A : Type 0} (xs : List A) (x : A) → Contains xs x → (k : ℕ) × (k < length xs) × (slice_get xs k ≡ Some x)
 listed_at xs x h =
@@ -41,14 +41,16 @@ pub nullable_made : (g : Grammar) (steps : List Step) (old new : List Bool) → 
 nullable_made g steps old new lists old_is len s = record {
   len = s.len ∙ len;
   sound = s.sound (λ r h. absurd (none_marked (length g) r (ap (λ (l : List Bool). get_or l r false) (sym old_is) ∙ h)));
-  closed = λ r a chosen is e. at_step g steps (EmptyAt g new) lists s.settled r a chosen is chosen is e }
+  closed = λ r a chosen is e. at_step g steps (EmptyAt g new) lists s.settled r a chosen is chosen is e;
+}
 
 pub first_made : (g : Grammar) (steps : List Step) (nullable : List Bool) (t : ℕ) (old new : List Bool) → ListsSteps g steps → old ≡ replicate (length g) false → length old ≡ length g →
     IsSaturated (λ r. CanBegin g (Rule r ∷ []) t) (λ m. (k : ℕ) → k < length steps → At steps k (FirstAt g (marked nullable) t m)) old new → AreFirst g nullable t new
 first_made g steps nullable t old new lists old_is len s = record {
   len = s.len ∙ len;
   sound = s.sound (λ r h. absurd (none_marked (length g) r (ap (λ (l : List Bool). get_or l r false) (sym old_is) ∙ h)));
-  closed = λ r a chosen is e. at_step g steps (FirstAt g (marked nullable) t new) lists s.settled r a chosen is chosen is e }
+  closed = λ r a chosen is e. at_step g steps (FirstAt g (marked nullable) t new) lists s.settled r a chosen is chosen is e;
+}
 
 only_first : (n : ℕ) (b : Bool) (r : ℕ) → get_or (set (replicate n false) 0 b) r false ≡ true → (r ≡ 0) × (b ≡ true)
 only_first zero b r e = absurd (cc)
@@ -64,10 +66,11 @@ pub reached_made : (g : Grammar) (steps : List Step) (places : List Place) (old 
 reached_made g steps places old new well lists_steps lists old_is len s = record {
   len = s.len ∙ len;
   sound = s.sound (λ r h.
-    let p = only_first (length g) true r (ap (λ (l : List Bool). get_or l r false) (sym old_is) ∙ h) in
-    subst (λ (x : ℕ). IsReached g x) (sym p.0) ([], Token end_mark ∷ [], start));
+      let p = only_first (length g) true r (ap (λ (l : List Bool). get_or l r false) (sym old_is) ∙ h) in
+      subst (λ (x : ℕ). IsReached g x) (sym p.0) ([], Token end_mark ∷ [], start));
   closed = λ r a q before after is on. at_place g steps places (ReachAt g new) lists_steps lists s.settled r a q before after is q after (before, is, refl) on;
-  at_first = s.kept 0 (ap (λ (l : List Bool). get_or l 0 false) old_is ∙ first_marked (length g) true well.some_rule) }
+  at_first = s.kept 0 (ap (λ (l : List Bool). get_or l 0 false) old_is ∙ first_marked (length g) true well.some_rule);
+}
 
 pub followed_made : (g : Grammar) (steps : List Step) (places : List Place) (t : ℕ) (nullable first reached : List Bool) (b : Bool) (old new : List Bool) →
     FollowsFrom g steps places t nullable first reached → ListsSteps g steps → (b ≡ true → t ≡ end_mark) → (t ≡ end_mark → b ≡ true) →
@@ -77,9 +80,10 @@ pub followed_made : (g : Grammar) (steps : List Step) (places : List Place) (t :
 followed_made g steps places t nullable first reached b old new from lists_steps is_end end_is old_is len s = record {
   len = s.len ∙ len;
   sound = s.sound (λ r h.
-    let p = only_first (length g) b r (ap (λ (l : List Bool). get_or l r false) (sym old_is) ∙ h) in
-    subst (λ (x : ℕ). Follows g x t) (sym p.0)
+      let p = only_first (length g) b r (ap (λ (l : List Bool). get_or l r false) (sym old_is) ∙ h) in
+      subst (λ (x : ℕ). Follows g x t) (sym p.0)
       ([], Token end_mark ∷ [], start, subst (λ (x : ℕ). CanBegin g (Token end_mark ∷ []) x) (sym (is_end p.1)) ([], [], token nothing)));
   closed = λ r a q before after is on e.
-    at_place g steps places (FollowAt g (marked nullable) (marked first) (marked reached) t new) lists_steps from.lists s.settled r a q before after is q after (before, is, refl) on e;
-  at_end = λ e. s.kept 0 (ap (λ (l : List Bool). get_or l 0 false) old_is ∙ first_marked (length g) b from.well_formed.some_rule ∙ end_is e) }
+      at_place g steps places (FollowAt g (marked nullable) (marked first) (marked reached) t new) lists_steps from.lists s.settled r a q before after is q after (before, is, refl) on e;
+  at_end = λ e. s.kept 0 (ap (λ (l : List Bool). get_or l 0 false) old_is ∙ first_marked (length g) b from.well_formed.some_rule ∙ end_is e);
+}

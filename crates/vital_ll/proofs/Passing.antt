@@ -1,5 +1,5 @@
 -- One turn of each pass.
-use Rattle.std.proofs.Common.{◌≡◌, ℕ, ◌+◌, ◌<◌, ◌≤◌, Bool, true, false, not, List, [], ◌∷◌, ◌++◌, length, get_or, set, drop, take, Option, Some, None, is_some, All, slice_get, refl, sym, ap, ◌∙◌, subst, arith, inl, inr, ◌⊎◌}
+use Rattle.std.proofs.Common.{◌≡◌, ℕ, ◌+◌, ◌<◌, Bool, true, false, not, List, [], ◌∷◌, ◌++◌, length, get_or, set, drop, take, Some, is_some, All, slice_get, sym, ap, ◌∙◌, subst, arith}
 use Rattle.std.proofs.lemmas.List.{take-append-drop, drop_more, length-take-le}
 use Rattle.std.proofs.lemmas.List.Elements.{All-head, All-tail, All-get_or}
 use Rattle.std.proofs.lemmas.Option.{slice_get_within, get_or_from_slice_get}
@@ -9,7 +9,7 @@ use Rattle.vital_ll.specs.declared.derivation.Step.{Step}
 use Rattle.vital_ll.specs.declared.listing.Place.{Place}
 use Rattle.vital_ll.specs.Grammar.{Grammar, alternative_of}
 use Rattle.vital_ll.specs.Choice.{CanBegin, CanBeEmpty, Follows, IsNamed, IsWellFormed}
-use Rattle.vital_ll.specs.Marks.{Marks, marked, empties, begins, IsTurn, IsReached, EmptySound, FirstSound, ReachSound}
+use Rattle.vital_ll.specs.Marks.{Marks, marked, empties, begins, IsTurn, IsReached, EmptySound}
 use Rattle.vital_ll.specs.Listing.{ListsPlaces, IsPlaceOf}
 use Rattle.vital_ll.specs.Passes.{At, EmptyAt, FirstAt, IsNamedAt, ReachAt, FollowAt, FollowsFrom}
 use Rattle.vital_ll.proofs.Listings.{bounds_of}
@@ -25,8 +25,8 @@ pub empty_turn : (g : Grammar) (steps : List Step) (k : ℕ) (s : Step) (chosen 
     IsTurn (λ r. CanBeEmpty g (Rule r ∷ [])) (λ m. At steps k (EmptyAt g m)) old new changed
 empty_turn g steps k s chosen old new changed len at is e new_is changed_is =
     turn_add (λ r. CanBeEmpty g (Rule r ∷ [])) (λ m. At steps k (EmptyAt g m)) old new s.rule changed (rule_inside g s.rule s.alternative chosen old len is) new_is changed_is
-      (λ sound. empty_justified g (marked old) s.rule s.alternative chosen sound is e)
-      (λ here x x_is found found_is f. let same : s ≡ x = cc in subst (λ (y : Step). marked old y.rule ≡ true) same here)
+    (λ sound. empty_justified g (marked old) s.rule s.alternative chosen sound is e)
+    (λ here x x_is found found_is f. let same : s ≡ x = cc in subst (λ (y : Step). marked old y.rule ≡ true) same here)
 
 pub first_turn : (g : Grammar) (nullable : Marks) (t : ℕ) (steps : List Step) (k : ℕ) (s : Step) (chosen : List Sym) (old new : List Bool) (changed : Bool) → IsWellFormed g → EmptySound g nullable →
     length old ≡ length g → slice_get steps k ≡ Some s → alternative_of g s.rule s.alternative ≡ Some chosen → begins nullable (marked old) t false chosen ≡ true →
@@ -34,8 +34,8 @@ pub first_turn : (g : Grammar) (nullable : Marks) (t : ℕ) (steps : List Step) 
     IsTurn (λ r. CanBegin g (Rule r ∷ []) t) (λ m. At steps k (FirstAt g nullable t m)) old new changed
 first_turn g nullable t steps k s chosen old new changed well empty_sound len at is e new_is changed_is =
     turn_add (λ r. CanBegin g (Rule r ∷ []) t) (λ m. At steps k (FirstAt g nullable t m)) old new s.rule changed (rule_inside g s.rule s.alternative chosen old len is) new_is changed_is
-      (λ sound. first_justified g nullable (marked old) t s.rule s.alternative chosen well empty_sound sound is e)
-      (λ here x x_is found found_is f. let same : s ≡ x = cc in subst (λ (y : Step). marked old y.rule ≡ true) same here)
+    (λ sound. first_justified g nullable (marked old) t s.rule s.alternative chosen well empty_sound sound is e)
+    (λ here x x_is found found_is f. let same : s ≡ x = cc in subst (λ (y : Step). marked old y.rule ≡ true) same here)
 
 -- a list round the element at a place
 pub split_at : (l : List Sym) (k : ℕ) (x : Sym) → k < length l → x ≡ get_or l k x → l ≡ take k l ++ x ∷ drop (k + 1) l
@@ -102,15 +102,15 @@ pub reach_turn : (g : Grammar) (places : List Place) (k : ℕ) (p : Place) (r : 
     IsTurn (λ q. IsReached g q) (λ m. At places k (ReachAt g m)) old new changed
 reach_turn g places k p r after old new changed well len at named here new_is changed_is =
     turn_add (λ q. IsReached g q) (λ m. At places k (ReachAt g m)) old new r changed (let low = named_rule g p r after well named in omega arith) new_is changed_is
-      (λ sound. reach_justified g p.step.rule p.step.alternative r named.0 after named.1 (sound p.step.rule here))
-      (λ on. at_one (ReachAt g old) places k p at (λ q later other on_here. subst (λ (x : ℕ). marked old x ≡ true) (same_named g p r q after later named other).0 on))
+    (λ sound. reach_justified g p.step.rule p.step.alternative r named.0 after named.1 (sound p.step.rule here))
+    (λ on. at_one (ReachAt g old) places k p at (λ q later other on_here. subst (λ (x : ℕ). marked old x ≡ true) (same_named g p r q after later named other).0 on))
 
 module _ (g : Grammar) (places : List Place) (t : ℕ) (nullable first reached : List Bool) (k : ℕ) (p : Place) (at : slice_get places k ≡ Some p) where
   follow_quiet : (marks : List Bool) → FollowAt g (marked nullable) (marked first) (marked reached) t marks p →
       IsTurn (λ r. Follows g r t) (λ m. At places k (FollowAt g (marked nullable) (marked first) (marked reached) t m)) marks marks false
   follow_quiet marks here =
       turn_quiet (λ r. Follows g r t) (λ m. At places k (FollowAt g (marked nullable) (marked first) (marked reached) t m)) marks
-        (at_one (FollowAt g (marked nullable) (marked first) (marked reached) t marks) places k p at here)
+      (at_one (FollowAt g (marked nullable) (marked first) (marked reached) t marks) places k p at here)
 
   pub follow_unreached : (marks : List Bool) → marked reached p.step.rule ≡ false →
       IsTurn (λ r. Follows g r t) (λ m. At places k (FollowAt g (marked nullable) (marked first) (marked reached) t m)) marks marks false
@@ -124,9 +124,9 @@ module _ (g : Grammar) (places : List Place) (t : ℕ) (nullable first reached :
       IsTurn (λ r. Follows g r t) (λ m. At places k (FollowAt g (marked nullable) (marked first) (marked reached) t m)) marks marks false
   follow_other r after marks named off =
       follow_quiet marks (λ q later other on e.
-        let same = (same_named g p r q after later named other).1 in
-        let both : begins (marked nullable) (marked first) t (marked marks p.step.rule) later ≡ false = subst (λ (l : List Sym). begins (marked nullable) (marked first) t (marked marks p.step.rule) l ≡ false) same off in
-        absurd (cc))
+      let same = (same_named g p r q after later named other).1 in
+      let both : begins (marked nullable) (marked first) t (marked marks p.step.rule) later ≡ false = subst (λ (l : List Sym). begins (marked nullable) (marked first) t (marked marks p.step.rule) l ≡ false) same off in
+      absurd (cc))
 
   pub follow_turn : (steps : List Step) (r : ℕ) (after : List Sym) (old new : List Bool) (changed : Bool) → FollowsFrom g steps places t nullable first reached → length old ≡ length g →
       IsNamedAt g p r after → marked reached p.step.rule ≡ true → begins (marked nullable) (marked first) t (marked old p.step.rule) after ≡ true →
@@ -134,7 +134,7 @@ module _ (g : Grammar) (places : List Place) (t : ℕ) (nullable first reached :
       IsTurn (λ r. Follows g r t) (λ m. At places k (FollowAt g (marked nullable) (marked first) (marked reached) t m)) old new changed
   follow_turn steps r after old new changed from len named here e new_is changed_is =
       turn_add (λ r. Follows g r t) (λ m. At places k (FollowAt g (marked nullable) (marked first) (marked reached) t m)) old new r changed
-        (let low = named_rule g p r after from.well_formed named in omega arith) new_is changed_is
-        (λ sound. follow_justified g (marked nullable) (marked first) (marked old) t p.step.rule p.step.alternative r named.0 after from.well_formed from.empty_sound from.first_sound sound named.1 (from.reach_sound p.step.rule here) e)
-        (λ on. at_one (FollowAt g (marked nullable) (marked first) (marked reached) t old) places k p at
-          (λ q later other on_here f. subst (λ (x : ℕ). marked old x ≡ true) (same_named g p r q after later named other).0 on))
+      (let low = named_rule g p r after from.well_formed named in omega arith) new_is changed_is
+      (λ sound. follow_justified g (marked nullable) (marked first) (marked old) t p.step.rule p.step.alternative r named.0 after from.well_formed from.empty_sound from.first_sound sound named.1 (from.reach_sound p.step.rule here) e)
+      (λ on. at_one (FollowAt g (marked nullable) (marked first) (marked reached) t old) places k p at
+      (λ q later other on_here f. subst (λ (x : ℕ). marked old x ≡ true) (same_named g p r q after later named other).0 on))

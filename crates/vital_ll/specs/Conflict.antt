@@ -1,5 +1,4 @@
 -- What a refused grammar says.
-use Rattle.std.specs.Prelude.{◌≡◌, ℕ}
 use Rattle.vital_ll.specs.declared.prediction.RulesError.{RulesError}
 use Rattle.vital_ll.specs.declared.prediction.RulesError.TheVariants.{NotPredictive, NoMemory}
 use Rattle.vital_ll.specs.Grammar.{Grammar}

@@ -1,7 +1,6 @@
 -- A small grammar with an option and a repetition, on which definitions and laws are tried:
 -- file = { line } ;  line = name [ "=" name ] ";" ;  name is token 0, "=" token 1 and ";" token 2
-use Rattle.std.specs.Prelude.{ℕ, Bool, true, false, List, [], ◌∷◌}
-use Rattle.vital_ll.specs.declared.grammar.Sym.{Sym}
+use Rattle.std.specs.Prelude.{ℕ, true, false, List, [], ◌∷◌}
 use Rattle.vital_ll.specs.declared.grammar.Sym.TheVariants.{Token, Rule}
 use Rattle.vital_ll.specs.Grammar.{Grammar}
 use Rattle.vital_ll.specs.Masks.{MaskTable}

@@ -1,6 +1,5 @@
 -- Tables of masks, by which a grammar is seen to be predictive.
-use Rattle.std.specs.Prelude.{◌≡◌, ℕ, ◌+◌, ◌^◌, ◌/◌, ◌%◌, Bool, true, false, not, ◌&&◌, ◌||◌, ◌==◌, if◌then◌else◌, List, [], ◌∷◌, slice_index_or}
-use Rattle.std.specs.Int.{bit_at}
+use Rattle.std.specs.Prelude.{ℕ, ◌+◌, ◌^◌, Bool, true, false, not, ◌&&◌, ◌||◌, ◌==◌, if◌then◌else◌, List, [], ◌∷◌, slice_index_or}
 use Rattle.std.specs.Int.Bits.{bit_and, bit_or}
 use Rattle.vital_ll.specs.declared.grammar.Sym.{Sym}
 use Rattle.vital_ll.specs.declared.grammar.Sym.TheVariants.{Token, Rule}

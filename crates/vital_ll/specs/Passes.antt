@@ -1,7 +1,7 @@
 -- When a pass has nothing more to mark at an alternative, or at a symbol of one.
-use Rattle.std.specs.Prelude.{◌≡◌, ℕ, ◌<◌, Bool, true, false, List, [], ◌∷◌, ◌++◌, length, Some, slice_get, All}
+use Rattle.std.specs.Prelude.{◌≡◌, ℕ, Bool, true, false, List, ◌∷◌, ◌++◌, length, Some, slice_get}
 use Rattle.vital_ll.specs.declared.grammar.Sym.{Sym}
-use Rattle.vital_ll.specs.declared.grammar.Sym.TheVariants.{Token, Rule}
+use Rattle.vital_ll.specs.declared.grammar.Sym.TheVariants.{Rule}
 use Rattle.vital_ll.specs.declared.derivation.Step.{Step}
 use Rattle.vital_ll.specs.declared.listing.Place.{Place}
 use Rattle.vital_ll.specs.Grammar.{Grammar, alternative_of}

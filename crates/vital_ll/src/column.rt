@@ -36,7 +36,12 @@ fn add_choice(choices: &mut Vec<Option<u16>>, clear: usize, step: Step) -> usize
 }
 
 /// The alternatives whose choice sets have the pass's token.
-fn decide(alloc: Global, pass: &FollowPass, follow: &[bool], before: usize) -> Result<Column, AllocError>
+fn decide(
+    alloc: Global,
+    pass: &FollowPass,
+    follow: &[bool],
+    before: usize,
+) -> Result<Column, AllocError>
     requires steps { ListsSteps pass.now.rules.now pass.now.steps.now }
     requires well_formed { IsWellFormed pass.now.rules.now }
     requires sets { AreSets pass.now.rules.now pass.now.token pass.now.nullable.now pass.now.first.now pass.now.reached.now follow.now }
@@ -66,7 +71,12 @@ pub(crate) struct Analysis<'a> {
 
 impl Analysis<'_> {
     /// The alternatives that the token decides for. Below `before` no rule has a conflict in another column.
-    pub(crate) fn column(&self, alloc: Global, token: u32, before: usize) -> Result<Column, AllocError>
+    pub(crate) fn column(
+        &self,
+        alloc: Global,
+        token: u32,
+        before: usize,
+    ) -> Result<Column, AllocError>
         requires { IsAnalysis self.now.rules.now self.now.steps.now self.now.places.now self.now.nullable.now self.now.reached.now }
         ensures { IfOk result (λ column. IsColumn self.now.rules.now token self.now.steps.now before column.choices.items column.clear) }
     {

@@ -8,6 +8,7 @@ pub(crate) trait Pass {
 
     /// How many rules there are, and how many items.
     ghost rules: { Self → ℕ };
+
     ghost items: { Self → ℕ };
 
     /// What the mark of a rule says.

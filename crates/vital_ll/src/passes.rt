@@ -32,9 +32,13 @@ pub(crate) struct EmptyPass<'a> {
 
 impl Pass for EmptyPass<'_> {
     ghost valid = { λ s. IsWellFormed s.rules.now × ListsSteps s.rules.now s.steps.now };
+
     ghost rules = { λ s. length s.rules.now };
+
     ghost items = { λ s. length s.steps.now };
+
     ghost reason = { λ s r. CanBeEmpty s.rules.now (Rule r ∷ []) };
+
     ghost settled = { λ s marks k. At s.steps.now k (EmptyAt s.rules.now marks) };
 
     fn len(&self) -> usize {
@@ -61,9 +65,13 @@ pub(crate) struct FirstPass<'a> {
 
 impl Pass for FirstPass<'_> {
     ghost valid = { λ s. IsWellFormed s.rules.now × ListsSteps s.rules.now s.steps.now × (length s.nullable.now ≡ length s.rules.now) × EmptySound s.rules.now (marked s.nullable.now) };
+
     ghost rules = { λ s. length s.rules.now };
+
     ghost items = { λ s. length s.steps.now };
+
     ghost reason = { λ s r. CanBegin s.rules.now (Rule r ∷ []) s.token };
+
     ghost settled = { λ s marks k. At s.steps.now k (FirstAt s.rules.now (marked s.nullable.now) s.token marks) };
 
     fn len(&self) -> usize {
@@ -103,9 +111,13 @@ pub(crate) struct ReachPass<'a> {
 
 impl Pass for ReachPass<'_> {
     ghost valid = { λ s. IsWellFormed s.rules.now × ListsPlaces s.rules.now s.steps.now s.places.now };
+
     ghost rules = { λ s. length s.rules.now };
+
     ghost items = { λ s. length s.places.now };
+
     ghost reason = { λ s r. IsReached s.rules.now r };
+
     ghost settled = { λ s marks k. At s.places.now k (ReachAt s.rules.now marks) };
 
     fn len(&self) -> usize {
@@ -138,9 +150,13 @@ pub(crate) struct FollowPass<'a> {
 
 impl Pass for FollowPass<'_> {
     ghost valid = { λ s. FollowsFrom s.rules.now s.steps.now s.places.now s.token s.nullable.now s.first.now s.reached.now };
+
     ghost rules = { λ s. length s.rules.now };
+
     ghost items = { λ s. length s.places.now };
+
     ghost reason = { λ s r. Follows s.rules.now r s.token };
+
     ghost settled = { λ s marks k. At s.places.now k (FollowAt s.rules.now (marked s.nullable.now) (marked s.first.now) (marked s.reached.now) s.token marks) };
 
     fn len(&self) -> usize {

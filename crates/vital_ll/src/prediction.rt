@@ -32,7 +32,10 @@ pub enum RulesError {
 impl fmt::Display for RulesError {
     fn fmt<W: fmt::Write>(&self, f: &mut fmt::Formatter<W>) -> fmt::Result {
         match self {
-            RulesError::NotPredictive { rule } => write!(f, "two alternatives of rule {rule} compete for a token"),
+            RulesError::NotPredictive { rule } => write!(
+                f,
+                "two alternatives of rule {rule} compete for a token"
+            ),
             RulesError::NoMemory => write!(f, "out of memory"),
         }
     }
@@ -81,7 +84,11 @@ fn token_of(width: usize, column: usize) -> u32
     requires { column ≤ 65536 }
     ensures { result ≡ token_of width column }
 {
-    if column == width { END_MARK } else { column as u32 }
+    if column == width {
+        END_MARK
+    } else {
+        column as u32
+    }
 }
 
 /// Fills the columns one by one.

@@ -7,12 +7,16 @@ use crate::derivation::Step;
 use crate::grammar::RuleList;
 use crate::listing::Place;
 use crate::marks::saturated;
-use crate::token::END_MARK;
 use crate::passes::{EmptyPass, FirstPass, FollowPass, ReachPass};
+use crate::token::END_MARK;
 use std::alloc::{AllocError, Global};
 
 /// Which rules can be empty.
-pub(crate) fn nullable_rules(alloc: Global, rules: &RuleList, steps: &[Step]) -> Result<Vec<bool>, AllocError>
+pub(crate) fn nullable_rules(
+    alloc: Global,
+    rules: &RuleList,
+    steps: &[Step],
+) -> Result<Vec<bool>, AllocError>
     requires well_formed { IsWellFormed rules.now }
     requires steps { ListsSteps rules.now steps.now }
     ensures { IfOk result (λ marks. AreNullable rules.now marks.items) }

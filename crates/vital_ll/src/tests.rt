@@ -10,12 +10,22 @@ fn example(alloc: Global) -> Result<RuleList, AllocError>
     ensures { IfOk result (λ grammar. grammar ≡ example) }
 {
     let lines = vec![in alloc; Sym::Rule(1), Sym::Rule(0)]?;
-    let file = vec![in alloc; Alternative::from_vec(lines), Alternative::from_vec(Vec::new(alloc))]?;
+    let file = vec![in alloc;
+        Alternative::from_vec(lines),
+        Alternative::from_vec(Vec::new(alloc)),
+    ]?;
     let parts = vec![in alloc; Sym::Token(0), Sym::Rule(2), Sym::Token(2)]?;
     let line = vec![in alloc; Alternative::from_vec(parts)]?;
     let value = vec![in alloc; Sym::Token(1), Sym::Token(0)]?;
-    let option = vec![in alloc; Alternative::from_vec(value), Alternative::from_vec(Vec::new(alloc))]?;
-    let rules = vec![in alloc; Rule::from_vec(file), Rule::from_vec(line), Rule::from_vec(option)]?;
+    let option = vec![in alloc;
+        Alternative::from_vec(value),
+        Alternative::from_vec(Vec::new(alloc)),
+    ]?;
+    let rules = vec![in alloc;
+        Rule::from_vec(file),
+        Rule::from_vec(line),
+        Rule::from_vec(option),
+    ]?;
     Ok(RuleList::from_vec(rules))
 }
 
@@ -38,7 +48,10 @@ fn reads_the_one_tree(rt: HostRuntime) -> Result<(), Fail> {
     let rules = example_rules(rt.alloc())?;
     // name = name ; name ;
     let tree = parse(rt.alloc(), &rules, &[0, 1, 0, 2, 0, 2])?;
-    let steps = [(0, 0), (1, 0), (2, 0), (0, 0), (1, 0), (2, 1), (0, 1)].map(|(rule, alternative)| Step { rule, alternative });
+    let steps = [(0, 0), (1, 0), (2, 0), (0, 0), (1, 0), (2, 1), (0, 1)].map(|(
+        rule,
+        alternative,
+    )| Step { rule, alternative });
     assert_eq!(rt; tree.steps(), steps.as_slice());
     Ok(())
 }
@@ -59,7 +72,10 @@ fn refuses_the_first_token_that_goes_on_no_sentence(rt: HostRuntime) -> Result<(
         (&[0, 2, 0], 3),
     ];
     for (kinds, token) in rows {
-        assert_eq!(rt; parse(rt.alloc(), &rules, kinds).err(), Some(ParseError::Refused { token }));
+        assert_eq!(rt;
+            parse(rt.alloc(), &rules, kinds).err(),
+            Some(ParseError::Refused { token })
+        );
     }
     Ok(())
 }
@@ -71,11 +87,18 @@ fn undecided(alloc: Global) -> Result<RuleList, AllocError>
     let text = vec![in alloc; Sym::Rule(1), Sym::Token(0), Sym::Rule(2)]?;
     let text = vec![in alloc; Alternative::from_vec(text)]?;
     let name = vec![in alloc; Sym::Token(0)]?;
-    let option = vec![in alloc; Alternative::from_vec(name), Alternative::from_vec(Vec::new(alloc))]?;
+    let option = vec![in alloc;
+        Alternative::from_vec(name),
+        Alternative::from_vec(Vec::new(alloc)),
+    ]?;
     let short = vec![in alloc; Sym::Token(1)]?;
     let long = vec![in alloc; Sym::Token(1), Sym::Token(0)]?;
     let tail = vec![in alloc; Alternative::from_vec(short), Alternative::from_vec(long)]?;
-    let rules = vec![in alloc; Rule::from_vec(text), Rule::from_vec(option), Rule::from_vec(tail)]?;
+    let rules = vec![in alloc;
+        Rule::from_vec(text),
+        Rule::from_vec(option),
+        Rule::from_vec(tail),
+    ]?;
     Ok(RuleList::from_vec(rules))
 }
 
@@ -83,6 +106,9 @@ fn undecided(alloc: Global) -> Result<RuleList, AllocError>
 fn names_the_first_rule_that_is_not_decided(rt: HostRuntime) -> Result<(), Fail> {
     ranks_derive();
     let grammar = undecided(rt.alloc())?;
-    assert_eq!(rt; Rules::make(rt.alloc(), &grammar).err(), Some(RulesError::NotPredictive { rule: 1 }));
+    assert_eq!(rt;
+        Rules::make(rt.alloc(), &grammar).err(),
+        Some(RulesError::NotPredictive { rule: 1 })
+    );
     Ok(())
 }

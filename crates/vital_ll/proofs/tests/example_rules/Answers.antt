@@ -1,6 +1,5 @@
-use Rattle.std.proofs.Common.{◌≡◌, refl, sym, subst}
+use Rattle.std.proofs.Common.{refl, sym, subst}
 use Rattle.vital_ll.specs.Choice.{IsWellFormed, IsFirstConflict}
-use Rattle.vital_ll.specs.Conflict.{IsConflict}
 use Rattle.vital_ll.specs.Example.{example, example_masks, example_ranks}
 use Rattle.vital_ll.proofs.tests.example_rules.Goals as goal
 

@@ -1,4 +1,4 @@
-use Rattle.std.proofs.Common.{◌≡◌, refl, sym, subst}
+use Rattle.std.proofs.Common.{refl, sym, subst}
 use Rattle.vital_ll.specs.Choice.{IsWellFormed}
 use Rattle.vital_ll.specs.Example.{undecided, undecided_ranks}
 use Rattle.vital_ll.proofs.tests.names_the_first_rule_that_is_not_decided.Goals as goal

@@ -8,5 +8,5 @@ pub returns : goal.returns
 returns c =
     let s = c.args.self.now in
     empty_turn s.rules.now s.steps.now c.args.item (get_or s.steps.now c.args.item (step 0 0)) c.symbols.result.now c.args.marks.now _ _ c.requires.rules
-      (slice_get-get_or s.steps.now c.args.item (step 0 0) c.requires.item) c.symbols.ensures (sym c.can_be_empty.ensures ∙ c.if-not-can_be_empty.false)
-      (c.add.ensures.marks ∙ ap (λ x. set c.args.marks.now x true) c.from.ensures) (c.add.ensures.new ∙ ap (λ x. not (get_or c.args.marks.now x false)) c.from.ensures)
+    (slice_get-get_or s.steps.now c.args.item (step 0 0) c.requires.item) c.symbols.ensures (sym c.can_be_empty.ensures ∙ c.if-not-can_be_empty.false)
+    (c.add.ensures.marks ∙ ap (λ x. set c.args.marks.now x true) c.from.ensures) (c.add.ensures.new ∙ ap (λ x. not (get_or c.args.marks.now x false)) c.from.ensures)

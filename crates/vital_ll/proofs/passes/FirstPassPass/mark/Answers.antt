@@ -9,5 +9,5 @@ pub returns : goal.returns
 returns c =
     let s = c.args.self.now in
     first_turn s.rules.now (marked s.nullable.now) s.token s.steps.now c.args.item (get_or s.steps.now c.args.item (step 0 0)) c.symbols-symbols.result.now c.args.marks.now _ _ c.requires.valid.0 c.requires.valid.3 c.requires.rules
-      (slice_get-get_or s.steps.now c.args.item (step 0 0) c.requires.item) c.symbols-symbols.ensures (sym c.can_begin.ensures ∙ c.if-not-can_begin.false)
-      (c.add.ensures.marks ∙ ap (λ x. set c.args.marks.now x true) c.from.ensures) (c.add.ensures.new ∙ ap (λ x. not (get_or c.args.marks.now x false)) c.from.ensures)
+    (slice_get-get_or s.steps.now c.args.item (step 0 0) c.requires.item) c.symbols-symbols.ensures (sym c.can_begin.ensures ∙ c.if-not-can_begin.false)
+    (c.add.ensures.marks ∙ ap (λ x. set c.args.marks.now x true) c.from.ensures) (c.add.ensures.new ∙ ap (λ x. not (get_or c.args.marks.now x false)) c.from.ensures)
