@@ -1,0 +1,12 @@
+pub mod Grammar
+pub mod Sentence
+pub mod Choice
+pub mod Table
+pub mod Refusal
+pub mod Marks
+pub mod Listing
+pub mod Passes
+pub mod Conflict
+pub mod Masks
+pub mod Ranks
+pub mod Example
