@@ -44,8 +44,10 @@ fn decide(
 ) -> Result<Column, AllocError>
     requires steps { ListsSteps pass.now.rules.now pass.now.steps.now }
     requires well_formed { IsWellFormed pass.now.rules.now }
-    requires sets { AreSets pass.now.rules.now pass.now.token pass.now.nullable.now pass.now.first.now pass.now.reached.now follow.now }
-    ensures { IfOk result (λ column. IsColumn pass.now.rules.now pass.now.token pass.now.steps.now before column.choices.items column.clear) }
+    requires sets { AreSets pass.now.rules.now pass.now.token pass.now.nullable.now pass.now.first.now
+        pass.now.reached.now follow.now }
+    ensures { IfOk result (λ column. IsColumn pass.now.rules.now pass.now.token pass.now.steps.now before
+        column.choices.items column.clear) }
 {
     let mut choices = vec![in alloc; None; pass.rules.len()]?;
     let mut clear = before;
@@ -77,8 +79,10 @@ impl Analysis<'_> {
         token: u32,
         before: usize,
     ) -> Result<Column, AllocError>
-        requires { IsAnalysis self.now.rules.now self.now.steps.now self.now.places.now self.now.nullable.now self.now.reached.now }
-        ensures { IfOk result (λ column. IsColumn self.now.rules.now token self.now.steps.now before column.choices.items column.clear) }
+        requires { IsAnalysis self.now.rules.now self.now.steps.now self.now.places.now self.now.nullable.now
+            self.now.reached.now }
+        ensures { IfOk result (λ column. IsColumn self.now.rules.now token self.now.steps.now before
+            column.choices.items column.clear) }
     {
         let first = first_rules(alloc, self.rules, self.steps, token, self.nullable)?;
         let pass = FollowPass {

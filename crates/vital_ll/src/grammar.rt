@@ -4,10 +4,12 @@ ghost use Rattle.vital_ll.specs.Grammar.{alternative_of};
 use std::alloc::{AllocError, Global};
 use std::marker::Model;
 
-/// A symbol of an alternative: a token of this kind, or what the rule of this number derives.
+/// A symbol of an alternative. Kinds and rules are numbered from 0.
 #[derive(Clone, Copy, Debug, PartialEq, Eq)]
 pub enum Sym {
+    /// A token of this kind.
     Token(u16),
+    /// What the rule of this number derives.
     Rule(u16),
 }
 

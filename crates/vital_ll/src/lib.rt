@@ -1,5 +1,5 @@
-// Reading by any predictive grammar: rules over numbers of token kinds, the one derivation of a list of
-// tokens, and the first token that no sentence goes on with.
+//! Reading by any predictive grammar: rules over numbers of token kinds, the one derivation of a list of tokens, and the
+//! first token that no sentence goes on with.
 #![tactic(auto)]
 
 mod beginnings;

@@ -33,7 +33,8 @@ pub(crate) trait Pass {
 fn sweep<P: Pass>(pass: &P, marks: &mut [bool]) -> bool
     requires valid { P.valid pass.now }
     requires rules { length marks.old ≡ P.rules pass.now }
-    ensures { IsTurn (P.reason pass.now) (λ m. (k : ℕ) → k < P.items pass.now → P.settled pass.now m k) marks.old marks.new result }
+    ensures { IsTurn (P.reason pass.now) (λ m. (k : ℕ) → k < P.items pass.now → P.settled pass.now m k)
+        marks.old marks.new result }
 {
     let mut changed = false;
     for item in 0..pass.len() {
@@ -46,7 +47,8 @@ fn sweep<P: Pass>(pass: &P, marks: &mut [bool]) -> bool
 fn saturate<P: Pass>(pass: &P, marks: &mut [bool])
     requires valid { P.valid pass.now }
     requires rules { length marks.old ≡ P.rules pass.now }
-    ensures { IsSaturated (P.reason pass.now) (λ m. (k : ℕ) → k < P.items pass.now → P.settled pass.now m k) marks.old marks.new }
+    ensures { IsSaturated (P.reason pass.now) (λ m. (k : ℕ) → k < P.items pass.now → P.settled pass.now m k)
+        marks.old marks.new }
 {
     while sweep(pass, marks) {}
 }
@@ -55,7 +57,8 @@ fn saturate<P: Pass>(pass: &P, marks: &mut [bool])
 pub(crate) fn saturated<P: Pass>(pass: &P, mut marks: Vec<bool>) -> Vec<bool>
     requires valid { P.valid pass.now }
     requires rules { length marks.items ≡ P.rules pass.now }
-    ensures { IsSaturated (P.reason pass.now) (λ m. (k : ℕ) → k < P.items pass.now → P.settled pass.now m k) marks.items result.items }
+    ensures { IsSaturated (P.reason pass.now) (λ m. (k : ℕ) → k < P.items pass.now → P.settled pass.now m k)
+        marks.items result.items }
 {
     saturate(pass, &mut marks);
     marks

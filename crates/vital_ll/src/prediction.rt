@@ -17,8 +17,6 @@ use crate::sets::{nullable_rules, reached_rules};
 use crate::token::END_MARK;
 use crate::width::width_of;
 use std::alloc::{AllocError, Global};
-use std::error::Error;
-use std::fmt;
 use std::marker::Model;
 
 /// Why a grammar has no table.
@@ -26,22 +24,9 @@ use std::marker::Model;
 pub enum RulesError {
     /// The next token does not decide between two alternatives of this rule, the first such rule.
     NotPredictive { rule: u16 },
+    /// There was no memory for the table.
     NoMemory,
 }
-
-impl fmt::Display for RulesError {
-    fn fmt<W: fmt::Write>(&self, f: &mut fmt::Formatter<W>) -> fmt::Result {
-        match self {
-            RulesError::NotPredictive { rule } => write!(
-                f,
-                "two alternatives of rule {rule} compete for a token"
-            ),
-            RulesError::NoMemory => write!(f, "out of memory"),
-        }
-    }
-}
-
-impl Error for RulesError {}
 
 impl From<AllocError> for RulesError {
     ghost from_gives = { λ _ e. e ≡ NoMemory };
@@ -93,9 +78,11 @@ fn token_of(width: usize, column: usize) -> u32
 
 /// Fills the columns one by one.
 fn fill_columns(alloc: Global, analysis: &Analysis, width: usize) -> Result<Filled, AllocError>
-    requires analysis { IsAnalysis analysis.now.rules.now analysis.now.steps.now analysis.now.places.now analysis.now.nullable.now analysis.now.reached.now }
+    requires analysis { IsAnalysis analysis.now.rules.now analysis.now.steps.now analysis.now.places.now
+        analysis.now.nullable.now analysis.now.reached.now }
     requires narrow { width ≤ 65536 }
-    ensures { IfOk result (λ filled. IsFilled analysis.now.rules.now width (width + 1) filled.table.items filled.clear) }
+    ensures { IfOk result (λ filled.
+        IsFilled analysis.now.rules.now width (width + 1) filled.table.items filled.clear) }
 {
     let mut table = Vec::new(alloc);
     let mut clear = analysis.rules.len();
@@ -159,6 +146,7 @@ impl Rules {
         ensures first { result ≡ Sym.Rule 0 }
         ensures well_formed { IsWellFormed self.now }
     {
+        // The grammar is read so that what holds of each `Rules` is at hand.
         let _ = &self.grammar;
         Sym::Rule(0)
     }

@@ -9,8 +9,6 @@ use crate::derivation::{Step, Tree};
 use crate::grammar::Sym;
 use crate::prediction::Rules;
 use std::alloc::{AllocError, AllocFailed, Global};
-use std::error::Error;
-use std::fmt;
 
 /// Why a list of tokens was not read.
 #[derive(Clone, Copy, Debug, PartialEq, Eq)]
@@ -18,19 +16,9 @@ pub enum ParseError {
     /// Tokens 0 to `token` begin no sentence, and `token` is the least such number; the end mark counts
     /// as the last token.
     Refused { token: u32 },
+    /// There was no memory for the derivation.
     NoMemory,
 }
-
-impl fmt::Display for ParseError {
-    fn fmt<W: fmt::Write>(&self, f: &mut fmt::Formatter<W>) -> fmt::Result {
-        match self {
-            ParseError::Refused { token } => write!(f, "token {token} goes on no sentence"),
-            ParseError::NoMemory => write!(f, "out of memory"),
-        }
-    }
-}
-
-impl Error for ParseError {}
 
 impl From<AllocError> for ParseError {
     ghost from_gives = { λ _ e. e ≡ NoMemory };
@@ -90,7 +78,8 @@ fn is_kind(next: Option<u16>, kind: u16) -> bool
 pub fn parse(alloc: Global, rules: &Rules, kinds: &[u16]) -> Result<Tree, ParseError>
     requires { length kinds.now < 2 ^ 32 }
     ensures tree { IfOk result (IsTreeOf rules.now kinds.now) }
-    ensures only { IfOk result (λ tree. (other : List Step) → IsTreeOf rules.now kinds.now other → other ≡ tree) }
+    ensures only { IfOk result (λ tree.
+        (other : List Step) → IsTreeOf rules.now kinds.now other → other ≡ tree) }
     ensures refused { IfErr result (IsRefusal rules.now kinds.now) }
 {
     let mut steps = Vec::new(alloc);
