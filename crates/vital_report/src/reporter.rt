@@ -180,7 +180,7 @@ impl Reporter {
         for field in fields {
             self.add_field(sink, *field)?;
         }
-        self.add(sink, b"\n")?;
+        self.add_byte(sink, b'\n')?;
         self.write_held(sink)
     }
 
@@ -200,7 +200,7 @@ impl Reporter {
         ensures fault_appends_prefix { OnErr result (AppendsPrefix (K.bytes sink.old)
             (self.old.held ++ (codes " " ++ field_bytes field.entry)) (K.bytes sink.new)) }
     {
-        self.add(sink, b" ")?;
+        self.add_byte(sink, b' ')?;
         self.add_value(sink, field)
     }
 
@@ -226,7 +226,7 @@ impl Reporter {
                 let mut digits = Buffer::new();
                 self.add(sink, digits.format(number).as_bytes())
             }
-            Field::Level(level) => self.add(sink, &[to_byte(level)]),
+            Field::Level(level) => self.add_byte(sink, to_byte(level)),
         }
     }
 
@@ -256,6 +256,29 @@ impl Reporter {
             return Ok(());
         }
         self.write_past(sink, text)
+    }
+
+    /// Adds one byte.
+    fn add_byte<K: Sink>(&mut self, sink: &mut K, byte: u8) -> Result<(), WriteFault>
+        requires { self.old.stopped ≡ false }
+        ensures keeps_may_stick { K.may_stick sink.old → K.may_stick sink.new }
+        ensures never_falls { K.faults sink.old ≤ K.faults sink.new }
+
+        ensures ok_passes_on { OnOk result (PassesOn (K.bytes sink.old) self.old.held (byte ∷ [])
+            (K.bytes sink.new) self.new.held) }
+        ensures ok_goes_on { OnOk result (self.new.stopped ≡ false) }
+        ensures ok_leaves_count { OnOk result (K.faults sink.new ≡ K.faults sink.old) }
+
+        ensures fault_stops { OnErr result (self.new.stopped ≡ true) }
+        ensures fault_rose { OnErr result (Rose (K.faults sink.old) (K.faults sink.new)) }
+        ensures fault_appends_prefix { OnErr result (AppendsPrefix (K.bytes sink.old)
+            (self.old.held ++ byte ∷ []) (K.bytes sink.new)) }
+    {
+        if self.held.len() == ROOM {
+            return self.add(sink, &[byte]);
+        }
+        self.held.push(byte).unwrap();
+        Ok(())
     }
 
     /// Holds a text for which there is room.

@@ -41,21 +41,21 @@ loop-field-preserved g c =
       keeps_may_stick = λ h. c.in_ok-add_field.ensures.keeps_may_stick (c.loop-field.invariant.keeps_may_stick h);
     }
 
-pub returns-in_err-add-2-clause-fault_appends_prefix : goal.returns-in_err-add-2-clause-fault_appends_prefix
-returns-in_err-add-2-clause-fault_appends_prefix g c =
+pub returns-in_err-add_byte-clause-fault_appends_prefix : goal.returns-in_err-add_byte-clause-fault_appends_prefix
+returns-in_err-add_byte-clause-fault_appends_prefix g c =
     let all = all_passed _ _ c.args.start.now c.args.fields.now c.loop-field.field-index _ _ c.loop-field.invariant.passes_on (omega (arith, c.loop-field.auto.field-index-end)) in
-    on_err c.from_residual-in_err-add-2.result (passes_prefix _ _ _ _ _ _ _ all c.in_err-add-2.ensures.fault_appends_prefix)
+    on_err c.from_residual-in_err-add_byte.result (passes_prefix _ _ _ _ _ _ _ all c.in_err-add_byte.ensures.fault_appends_prefix)
 
 pub returns-clause-ok_appends : goal.returns-clause-ok_appends
 returns-clause-ok_appends g c =
     let all = all_passed _ _ c.args.start.now c.args.fields.now c.loop-field.field-index _ _ c.loop-field.invariant.passes_on (omega (arith, c.loop-field.auto.field-index-end)) in
     let text = c.args.start.now ++ fields_text c.args.fields.now in
-    let line = passes_then _ _ text _ _ (codes "\n") _ _ all c.in_ok-add-2.ensures.ok_passes_on in
+    let line = passes_then _ _ text _ _ (codes "\n") _ _ all c.in_ok-add_byte.ensures.ok_passes_on in
     on_ok_weaker c.write_held.result (λ h. passes_all _ _ (text ++ codes "\n") _ _ _ line h) c.write_held.ensures.ok_appends
 
 pub returns-clause-fault_appends_prefix : goal.returns-clause-fault_appends_prefix
 returns-clause-fault_appends_prefix g c =
     let all = all_passed _ _ c.args.start.now c.args.fields.now c.loop-field.field-index _ _ c.loop-field.invariant.passes_on (omega (arith, c.loop-field.auto.field-index-end)) in
     let text = c.args.start.now ++ fields_text c.args.fields.now in
-    let line = passes_then _ _ text _ _ (codes "\n") _ _ all c.in_ok-add-2.ensures.ok_passes_on in
+    let line = passes_then _ _ text _ _ (codes "\n") _ _ all c.in_ok-add_byte.ensures.ok_passes_on in
     on_err_weaker c.write_held.result (λ h. passes_some _ _ (text ++ codes "\n") _ _ _ line h) c.write_held.ensures.fault_appends_prefix
