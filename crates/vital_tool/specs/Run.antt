@@ -58,9 +58,13 @@ after_cycle resolution signals time state =
       values = map (value_of resolution drivers) signals;
     }
 
+-- A time that may be missing, where it is not after the end time.
+abbrev pub up_to : ℕ → Option ℕ → Option ℕ
+up_to until time = option_and_then (λ t. if nat_le t until then Some t else None) time
+
 -- The time of the next cycle, where there is one up to the end time.
 abbrev pub due : ℕ → List Driver → Option ℕ
-due until drivers = option_and_then (λ time. if nat_le time until then Some time else None) (next_time drivers)
+due until drivers = up_to until (next_time drivers)
 
 -- The events of the cycles up to the end time, of which there are at most so many.
 abbrev pub cycles : ℕ → (List Level → Level) → List Signal → ℕ → State → List Event

@@ -162,7 +162,8 @@ pub fn next_time(drivers: &[Driver]) -> Option<Time>
     least
 }
 
-fn sooner(time: Option<Time>, other: Option<Time>) -> Option<Time>
+/// The sooner of two times, either of which may be missing.
+pub fn sooner(time: Option<Time>, other: Option<Time>) -> Option<Time>
     ensures { result ≡ sooner time other }
 {
     match (time, other) {

@@ -2,13 +2,13 @@
 
 ghost use Rattle.std.specs.Prelude.{◌≡◌, ◌+◌, ◌-◌, ◌^◌, ◌<◌, ◌==◌, length, map, All, IfOk, OnOk, if◌then◌else◌};
 ghost use Rattle.vital_tool.specs.Answer.{init_lines, run_lines, text_of};
-ghost use Rattle.vital_tool.specs.Driver.{RisesFrom, AllRise, advance, currents};
+ghost use Rattle.vital_tool.specs.Driver.{RisesFrom, AllRise, advance, currents, least, next_time, pending_times};
 ghost use Rattle.vital_tool.specs.Play.{first_state, idle_drivers, port_signals, sent};
 ghost use Rattle.vital_tool.specs.PlayText.{port_text, cycle_text, cycles_text};
-ghost use Rattle.vital_tool.specs.Run.{due};
+ghost use Rattle.vital_tool.specs.Run.{up_to};
 ghost use Rattle.vital_tool.specs.Writes.{Writes, ready};
 
-use crate::driver::{Driver, next_time};
+use crate::driver::{Driver, next_time, sooner};
 use crate::lines::put_line;
 use std::alloc::{AllocError, Global};
 use vital_base::{PortBit, Sink, Time, WriteFault};
@@ -114,9 +114,10 @@ fn run_cycles<K: Sink>(
 {
     let mut now = 0;
     let mut delta = 0;
-    while let Some(time) = due(drivers, until) {
+    let mut next = next_time(drivers);
+    while let Some(time) = up_to(until, next) {
         delta = next_delta(time, now, delta);
-        run_cycle(ports, drivers, time, delta, report, sink)?;
+        next = run_cycle(ports, drivers, time, delta, report, sink)?;
         now = time;
     }
     Ok(())
@@ -130,18 +131,18 @@ fn next_delta(time: Time, now: Time, delta: u64) -> u64
     if time == now { delta + 1 } else { 0 }
 }
 
-/// The time of the next cycle, where there is one up to the end time.
-fn due(drivers: &[Driver], until: Time) -> Option<Time>
-    ensures { result ≡ due until drivers.now }
+/// A time that may be missing, where it is not after the end time.
+fn up_to(until: Time, time: Option<Time>) -> Option<Time>
+    ensures { result ≡ up_to until time }
 {
-    match next_time(drivers) {
+    match time {
         Some(time) if time <= until => Some(time),
         _ => None,
     }
 }
 
 /// Runs one cycle: lets the transactions at its time become present values, and writes an event for each port whose value
-/// changes.
+/// changes. The answer is the time of the next transaction of any driver, found on the same way over the ports.
 fn run_cycle<K: Sink>(
     ports: &[PortBit],
     drivers: &mut [Driver],
@@ -149,23 +150,26 @@ fn run_cycle<K: Sink>(
     delta: u64,
     report: &mut Reporter,
     sink: &mut K,
-) -> Result<(), WriteFault>
+) -> Result<Option<Time>, WriteFault>
     requires one_each { length ports.now ≡ length drivers.old }
     requires rise { AllRise time drivers.old }
     requires ready { report.old ≡ ready }
     ensures after { OnOk result (drivers.new ≡ map (advance time) drivers.old) }
+    ensures next { IfOk result (λ next. next ≡ next_time (map (advance time) drivers.old)) }
     ensures writes { Writes result
         (cycle_text time delta ports.now drivers.old)
         (record { told = K.bytes sink.old; faults = K.faults sink.old })
         (record { told = K.bytes sink.new; faults = K.faults sink.new }) report.new }
 {
+    let mut next = None;
     for i in 0..ports.len() {
-        run_port(&ports[i], &mut drivers[i], time, delta, report, sink)?;
+        let later = run_port(&ports[i], &mut drivers[i], time, delta, report, sink)?;
+        next = sooner(next, later);
     }
-    Ok(())
+    Ok(next)
 }
 
-/// The part of one port in a cycle.
+/// The part of one port in a cycle. The answer is the time of its driver's next transaction.
 fn run_port<K: Sink>(
     port: &PortBit,
     driver: &mut Driver,
@@ -173,28 +177,27 @@ fn run_port<K: Sink>(
     delta: u64,
     report: &mut Reporter,
     sink: &mut K,
-) -> Result<(), WriteFault>
+) -> Result<Option<Time>, WriteFault>
     requires rise { RisesFrom time driver.old.pending }
     requires ready { report.old ≡ ready }
     ensures after { driver.new ≡ advance time driver.old }
+    ensures next { IfOk result (λ next. next ≡ least (pending_times driver.new)) }
     ensures writes { Writes result (port_text time delta port.now driver.old)
         (record { told = K.bytes sink.old; faults = K.faults sink.old })
         (record { told = K.bytes sink.new; faults = K.faults sink.new }) report.new }
 {
-    match driver.advance(time) {
-        None => Ok(()),
-        Some(value) => {
-            let name = &port.name;
-            put_line(
-                &Line::Event {
-                    time,
-                    delta,
-                    name,
-                    value,
-                },
-                report,
-                sink,
-            )
-        }
+    if let Some(value) = driver.advance(time) {
+        let name = &port.name;
+        put_line(
+            &Line::Event {
+                time,
+                delta,
+                name,
+                value,
+            },
+            report,
+            sink,
+        )?;
     }
+    Ok(driver.next_time())
 }

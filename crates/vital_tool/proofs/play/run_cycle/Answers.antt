@@ -2,6 +2,7 @@ use Rattle.std.proofs.Common.{◌<◌, ◌+◌, length, get_or, drop, ap, ◌∙
 use Rattle.vital_tool.specs.Driver.{advance}
 use Rattle.vital_tool.specs.PlayText.{port_text}
 use Rattle.vital_tool.specs.Writes.{SinkState}
+use Rattle.vital_tool.proofs.Least.{next_time_after_more}
 use Rattle.vital_tool.proofs.OneCycle.{next_driver, advanced_more, rises_in, text_from, one_port}
 use Rattle.vital_tool.proofs.Parts.{part_goes_on, part_stops, writes_failed}
 use Rattle.vital_tool.proofs.play.run_cycle.Goals as goal
@@ -13,8 +14,8 @@ run_port-requires-clause-rise g c =
     let within : i < length first = omega (arith, c.loop-i-test.true, c.requires.one_each) in
     rw (next_driver c.args.time i first c.loop-i.drivers c.index-drivers-i.result within c.loop-i.invariant.advanced) (rises_in c.args.time i first c.index-drivers-i.result within c.requires.rise)
 
-pub returns-in_err-run_port-clause-writes : goal.returns-in_err-run_port-clause-writes
-returns-in_err-run_port-clause-writes g c =
+pub returns-in_err-later-clause-writes : goal.returns-in_err-later-clause-writes
+returns-in_err-later-clause-writes g c =
     let i = c.loop-i.i in
     let ports = c.args.ports.now in
     let first = c.args.drivers.now in
@@ -32,7 +33,7 @@ returns-in_err-run_port-clause-writes g c =
     let whole = text_from time delta 0 ports first in
     let piece = port_text time delta p (get_or first i d) in
     let rest = text_from time delta (i + 1) (drop (i + 1) ports) (drop (i + 1) first) in
-    let failed = rw is at c.in_err-run_port.ensures.writes in
+    let failed = rw is at c.in_err-later.ensures.writes in
     writes_failed _ c.from_residual.result whole start next c.run_port.new.report c.from_residual.ensures.1
     (part_stops start whole piece rest now next (rw one at c.loop-i.invariant.part) failed)
 
@@ -55,9 +56,11 @@ loop-i-preserved g c =
     let whole = text_from time delta 0 ports first in
     let piece = port_text time delta p (get_or first i d) in
     let rest = text_from time delta (i + 1) (drop (i + 1) ports) (drop (i + 1) first) in
-    let written = rw is at c.in_ok-run_port.ensures.writes in
+    let written = rw is at c.in_ok-later.ensures.writes in
+    let came = c.in_ok-later.ensures.after ∙ ap (advance time) is in
     record {
       is_ready = written.is_ready;
-      advanced = advanced_more time i first ds d c.run_port.new.driver within c.loop-i.invariant.advanced (c.in_ok-run_port.ensures.after ∙ ap (advance time) is);
+      advanced = advanced_more time i first ds d c.run_port.new.driver within c.loop-i.invariant.advanced came;
+      next = cc (next_time_after_more time i first d within, came, c.in_ok-later.ensures.next, c.sooner-next.ensures, c.loop-i.invariant.next);
       part = part_goes_on start whole piece rest now next c.run_port.new.report (rw one at c.loop-i.invariant.part) written;
     }
