@@ -75,22 +75,12 @@ impl Driver {
         ensures after { self.new ≡ advance time self.old }
         ensures change { result ≡ (if same_level self.old.current self.new.current then None else Some self.new.current) }
     {
-        let before = to_byte(self.current);
-        self.take_value(time);
-        if before == to_byte(self.current) {
-            None
-        } else {
-            Some(self.current)
-        }
-    }
-
-    fn take_value(&mut self, time: Time)
-        requires { RisesFrom time self.old.pending }
-        ensures { self.new ≡ advance time self.old }
-    {
-        if let Some(value) = take_due(&mut self.pending, time) {
-            self.current = value;
-        }
+        let Some(value) = take_due(&mut self.pending, time) else {
+            return None;
+        };
+        let is_same = to_byte(self.current) == to_byte(value);
+        self.current = value;
+        if is_same { None } else { Some(value) }
     }
 }
 
