@@ -1,0 +1,12 @@
+use Rattle.std.proofs.Common.{◌≡◌, ℕ, ◌+◌, ◌-◌, ◌^◌, ◌≤◌, List, [], ◌∷◌, ◌++◌, length, reverse, take, get_or, vec_len}
+use Rattle.vital_ll.specs.declared.grammar.Sym.TheVariants.{Token}
+use Rattle.vital_ll.specs.Sentence.{end_mark}
+use Rattle.vital_ll.proofs.Parsing.{IsParsing}
+use Rattle.vital_ll.proofs.reading.parse.Given as goal
+
+abbrev pub invariant-loop-symbol : goal.invariant-loop-symbol
+invariant-loop-symbol l = IsParsing l.rules l.kinds l.taken l.stack.items l.steps.items
+
+-- each turn takes a token or writes a step, of which a list has fewer than 2 ^ 64
+abbrev pub decreases-loop-symbol : goal.decreases-loop-symbol
+decreases-loop-symbol l = (2 ^ 64 - vec_len l.steps) + (length l.kinds - l.taken)

@@ -1,0 +1,86 @@
+-- Marks on the rules of a grammar, from which its choice sets are found: one list of marks for each token.
+use Rattle.std.specs.Prelude.{◌≡◌, ℕ, ◌+◌, ◌<◌, ◌≤◌, Bool, true, false, ◌&&◌, ◌||◌, ◌==◌, List, [], ◌∷◌, ◌++◌, length, Some, slice_index_or}
+use Rattle.vital_ll.specs.declared.grammar.Sym.{Sym}
+use Rattle.vital_ll.specs.declared.grammar.Sym.TheVariants.{Token, Rule}
+use Rattle.vital_ll.specs.Grammar.{Grammar, alternative_of}
+use Rattle.vital_ll.specs.Choice.{CanBegin, CanBeEmpty, IsForm, Follows}
+
+-- which rules are marked
+abbrev pub Marks : Type 0
+Marks = ℕ → Bool
+
+-- the marks that a list holds
+abbrev pub marked : List Bool → Marks
+marked marks r = slice_index_or marks r false
+
+-- whether each symbol is a marked rule
+abbrev pub empties : Marks → List Sym → Bool
+empties nullable [] = true
+empties nullable (Token u ∷ rest) = false
+empties nullable (Rule r ∷ rest) = nullable r && empties nullable rest
+
+-- whether the symbols can begin with the token: they begin with it, or with a rule that does, past rules
+-- that can be empty; `after` says whether what comes after them can
+abbrev pub begins : Marks → Marks → ℕ → Bool → List Sym → Bool
+begins nullable first t after [] = after
+begins nullable first t after (Token u ∷ rest) = u == t
+begins nullable first t after (Rule r ∷ rest) = first r || (nullable r && begins nullable first t after rest)
+
+-- a rule is marked if an alternative has only marked rules
+abbrev pub EmptyClosed : Grammar → Marks → Type 0
+EmptyClosed g nullable =
+    (r a : ℕ) (chosen : List Sym) → alternative_of g r a ≡ Some chosen → empties nullable chosen ≡ true → nullable r ≡ true
+
+-- a rule is marked if an alternative can begin with the token
+abbrev pub FirstClosed : Grammar → Marks → Marks → ℕ → Type 0
+FirstClosed g nullable first t =
+    (r a : ℕ) (chosen : List Sym) → alternative_of g r a ≡ Some chosen → begins nullable first t false chosen ≡ true → first r ≡ true
+
+-- a rule is marked if an alternative of a marked rule names it
+abbrev pub ReachClosed : Grammar → Marks → Type 0
+ReachClosed g reached =
+    (r a s : ℕ) (before after : List Sym) → alternative_of g r a ≡ Some (before ++ Rule s ∷ after) → reached r ≡ true → reached s ≡ true
+
+-- a rule is marked if what comes after it, in an alternative of a rule that is reached, can begin with the token
+abbrev pub FollowClosed : Grammar → Marks → Marks → Marks → Marks → ℕ → Type 0
+FollowClosed g nullable first reached follow t =
+    (r a s : ℕ) (before after : List Sym) → alternative_of g r a ≡ Some (before ++ Rule s ∷ after) → reached r ≡ true →
+    begins nullable first t (follow r) after ≡ true → follow s ≡ true
+
+-- the rule stands in some form
+abbrev pub IsReached : Grammar → ℕ → Type 0
+IsReached g r = (before : List Sym) × (after : List Sym) × IsForm g (before ++ Rule r ∷ after)
+
+-- what each mark says
+abbrev pub EmptySound : Grammar → Marks → Type 0
+EmptySound g nullable = (r : ℕ) → nullable r ≡ true → CanBeEmpty g (Rule r ∷ [])
+
+abbrev pub FirstSound : Grammar → Marks → ℕ → Type 0
+FirstSound g first t = (r : ℕ) → first r ≡ true → CanBegin g (Rule r ∷ []) t
+
+abbrev pub ReachSound : Grammar → Marks → Type 0
+ReachSound g reached = (r : ℕ) → reached r ≡ true → IsReached g r
+
+abbrev pub FollowSound : Grammar → Marks → ℕ → Type 0
+FollowSound g follow t = (r : ℕ) → follow r ≡ true → Follows g r t
+
+-- how many rules are not marked
+abbrev pub unmarked : List Bool → ℕ
+unmarked [] = 0
+unmarked (true ∷ marks) = unmarked marks
+unmarked (false ∷ marks) = unmarked marks + 1
+
+-- Marks were added, each with a reason where those before had theirs; where none was, there was nothing to add.
+pub record IsTurn (Reason : ℕ → Type 0) (Settled : List Bool → Type 0) (old new : List Bool) (changed : Bool) : Type 0 where
+  pub len : length new ≡ length old
+  pub sound : ((r : ℕ) → marked old r ≡ true → Reason r) → (r : ℕ) → marked new r ≡ true → Reason r
+  pub kept : (r : ℕ) → marked old r ≡ true → marked new r ≡ true
+  pub quiet : changed ≡ false → (new ≡ old) × Settled old
+  pub fewer : changed ≡ true → unmarked new < unmarked old
+
+-- Marks were added until there was nothing to add.
+pub record IsSaturated (Reason : ℕ → Type 0) (Settled : List Bool → Type 0) (old new : List Bool) : Type 0 where
+  pub len : length new ≡ length old
+  pub sound : ((r : ℕ) → marked old r ≡ true → Reason r) → (r : ℕ) → marked new r ≡ true → Reason r
+  pub kept : (r : ℕ) → marked old r ≡ true → marked new r ≡ true
+  pub settled : Settled new

@@ -1,0 +1,118 @@
+ghost use Rattle.std.specs.Prelude.{◌≡◌, ℕ, ◌^◌, ◌<◌, ◌++◌, List, length, reverse, IfOk, IfErr, OnOk, IsTrue, IsSome, Some, ◌↔◌, unwrap_or, slice_index_or};
+ghost use Rattle.std.specs.Option.{ForSome};
+ghost use Rattle.vital_ll.specs.declared.derivation.Step.{Step};
+ghost use Rattle.vital_ll.specs.declared.reading.ParseError.TheVariants.{NoMemory};
+ghost use Rattle.vital_ll.specs.Sentence.{IsTreeOf, end_mark};
+ghost use Rattle.vital_ll.specs.Refusal.{IsRefusal};
+
+use crate::derivation::{Step, Tree};
+use crate::grammar::Sym;
+use crate::prediction::Rules;
+use std::alloc::{AllocError, AllocFailed, Global};
+use std::error::Error;
+use std::fmt;
+
+/// Why a list of tokens was not read.
+#[derive(Clone, Copy, Debug, PartialEq, Eq)]
+pub enum ParseError {
+    /// Tokens 0 to `token` begin no sentence, and `token` is the least such number; the end mark counts
+    /// as the last token.
+    Refused { token: u32 },
+    NoMemory,
+}
+
+impl fmt::Display for ParseError {
+    fn fmt<W: fmt::Write>(&self, f: &mut fmt::Formatter<W>) -> fmt::Result {
+        match self {
+            ParseError::Refused { token } => write!(f, "token {token} goes on no sentence"),
+            ParseError::NoMemory => write!(f, "out of memory"),
+        }
+    }
+}
+
+impl Error for ParseError {}
+
+impl From<AllocError> for ParseError {
+    ghost from_gives = { λ _ e. e ≡ NoMemory };
+
+    fn from(_error: AllocError) -> ParseError {
+        ParseError::NoMemory
+    }
+}
+
+impl<T: Drop> From<AllocFailed<T>> for ParseError {
+    ghost from_gives = { λ _ e. e ≡ NoMemory };
+
+    fn from(_error: AllocFailed<T>) -> ParseError {
+        ParseError::NoMemory
+    }
+}
+
+/// Puts the symbols on the stack, the first of them topmost.
+fn push_reversed(stack: &mut Vec<Sym>, symbols: &[Sym]) -> Result<(), AllocError>
+    ensures { OnOk result (reverse stack.new.items ≡ symbols.now ++ reverse stack.old.items) }
+{
+    for index in (0..symbols.len()).rev() {
+        stack.push(symbols[index])?;
+    }
+    Ok(())
+}
+
+/// The token of this number, or none after the last.
+fn token_at(kinds: &[u16], index: usize) -> Option<u16>
+    ensures token { unwrap_or result end_mark ≡ slice_index_or kinds.now index end_mark }
+    ensures within { IsSome result ↔ (index < length kinds.now) }
+    ensures kind { ForSome result (λ k. k < end_mark) }
+{
+    if index < kinds.len() {
+        Some(kinds[index])
+    } else {
+        None
+    }
+}
+
+/// Is the next token of this kind?
+fn is_kind(next: Option<u16>, kind: u16) -> bool
+    ensures { IsTrue result ↔ (next ≡ Some kind) }
+{
+    match next {
+        Some(found) => found == kind,
+        None => false,
+    }
+}
+
+/// The derivation of the tokens of these kinds, of which there is one where there is any. Else the first
+/// token that no sentence goes on with.
+pub fn parse(alloc: Global, rules: &Rules, kinds: &[u16]) -> Result<Tree, ParseError>
+    requires { length kinds.now < 2 ^ 32 }
+    ensures tree { IfOk result (IsTreeOf rules.now kinds.now) }
+    ensures only { IfOk result (λ tree. (other : List Step) → IsTreeOf rules.now kinds.now other → other ≡ tree) }
+    ensures refused { IfErr result (IsRefusal rules.now kinds.now) }
+{
+    let mut steps = Vec::new(alloc);
+    let mut stack = Vec::new(alloc);
+    let mut taken = 0usize;
+    stack.push(rules.start())?;
+    while let Some(symbol) = stack.pop() {
+        let next = token_at(kinds, taken);
+        match symbol {
+            Sym::Token(kind) => {
+                if !is_kind(next, kind) {
+                    return Err(ParseError::Refused { token: taken as u32 });
+                }
+                taken += 1;
+            }
+            Sym::Rule(rule) => {
+                let Some(alternative) = rules.choice(rule, next) else {
+                    return Err(ParseError::Refused { token: taken as u32 });
+                };
+                steps.push(Step { rule, alternative })?;
+                push_reversed(&mut stack, rules.symbols(rule, alternative))?;
+            }
+        }
+    }
+    if taken < kinds.len() {
+        return Err(ParseError::Refused { token: taken as u32 });
+    }
+    Ok(Tree::from_vec(steps))
+}
