@@ -1,0 +1,15 @@
+use Rattle.std.proofs.Common.{◌≡◌, ◌-◌, ◌<◌, ◌≤◌, true, length}
+use Rattle.std.specs.Prelude.{slice_range}
+use Rattle.vital_lex.specs.Bytes.{is_digit}
+use Rattle.vital_lex.specs.Forms.{are_underlined}
+use Rattle.vital_lex.proofs.ends.integer_end.Given as goal
+
+abbrev pub invariant-loop-end : goal.invariant-loop-end
+invariant-loop-end l = record {
+  forward : l.at < l.end;
+  within : l.end ≤ length l.text;
+  joined : are_underlined is_digit (slice_range l.text l.at l.end) ≡ true;
+}
+
+abbrev pub decreases-loop-end : goal.decreases-loop-end
+decreases-loop-end l = length l.text - l.end

@@ -1,0 +1,72 @@
+use Rattle.std.proofs.Common.{◌≡◌, ℕ, List, [], length, refl, sym, ap, subst, ◌∙◌, arith, Ok, Err}
+use Rattle.std.proofs.lemmas.Result.{err_from_is_err_and}
+use Rattle.vital_lex.specs.Outcome.{IsOutcome, Reaches}
+use Rattle.vital_lex.specs.Pieces.{empty}
+use Rattle.vital_lex.proofs.Limits.{nesting-none, within_none}
+use Rattle.vital_lex.proofs.Outcomes.{same_outcome}
+use Rattle.vital_lex.proofs.Refusals.{Refuses, handed_on, answer_refused, answer_gives}
+use Rattle.vital_lex.proofs.lexer.lex_vhdl.Goals as goal
+use Rattle.vital_lex.proofs.lexer.lex_vhdl.Goals.{After-drop-lexer, After-from_vec}
+
+pub loop-lexer-init : goal.loop-lexer-init
+loop-lexer-init c = record {
+  text_is = refl;
+  room_is = refl;
+  reading = record {
+    size = c.requires;
+    inside = omega arith;
+    lexemes = [];
+    read = record {
+      reaches = record { row = empty; within = within_none c.args.room };
+      tokens_are = c.new.ensures.items;
+      before_is = refl;
+      nesting_is = sym nesting-none;
+    };
+  };
+}
+
+pub advance-requires-clause-reading : goal.advance-requires-clause-reading
+advance-requires-clause-reading c = c.loop-lexer.invariant.reading
+
+pub advance-requires-clause-inside : goal.advance-requires-clause-inside
+advance-requires-clause-inside c = omega (arith, ap length c.loop-lexer.invariant.text_is)
+
+pub loop-lexer-preserved : goal.loop-lexer-preserved
+loop-lexer-preserved c = record {
+  text_is = c.in_ok-advance.ensures.same.0 ∙ c.loop-lexer.invariant.text_is;
+  room_is = c.in_ok-advance.ensures.same.1 ∙ c.loop-lexer.invariant.room_is;
+  reading = c.in_ok-advance.ensures.ok.0;
+}
+
+-- the lexer's refusal is handed on
+refuses : (c : After-drop-lexer) → Refuses c.args.text.now c.args.room c.in_err-advance.field-0.0
+refuses c = handed_on _ _ _ _ c.in_err-advance.field-0.0 c.in_err-advance.ensures.refused c.loop-lexer.invariant.text_is c.loop-lexer.invariant.room_is
+
+pub returns-in_err-advance-clause-refused : goal.returns-in_err-advance-clause-refused
+returns-in_err-advance-clause-refused c =
+    let p = err_from_is_err_and c.from_residual.result c.from_residual.ensures.1 in
+    answer_refused c.args.text.now c.args.room c.from_residual.result c.in_err-advance.field-0.0 (p.1 ∙ ap Err p.2) (refuses (goal.at.returns-in_err-advance-clause-refused c).After-drop-lexer)
+
+pub returns-in_err-advance-clause-only : goal.returns-in_err-advance-clause-only
+returns-in_err-advance-clause-only c =
+    let p = err_from_is_err_and c.from_residual.result c.from_residual.ensures.1 in
+    answer_gives c.args.text.now c.args.room c.from_residual.result c.in_err-advance.field-0.0 (p.1 ∙ ap Err p.2) (refuses (goal.at.returns-in_err-advance-clause-only c).After-drop-lexer)
+
+-- the text is read to its end
+whole : (c : After-from_vec) → IsOutcome c.args.text.now c.args.room (Ok c.from_vec.result)
+whole c =
+    let lexer = c.loop-lexer.lexer in
+    let reading = c.loop-lexer.invariant.reading in
+    let text_is = c.loop-lexer.invariant.text_is in
+    let at_end : lexer.at ≡ length c.args.text.now = omega (arith, ap length text_is, reading.inside) in
+    (reading.lexemes,
+    subst (λ (a : ℕ). Reaches c.args.text.now c.args.room a reading.lexemes) at_end
+    (subst (λ (t : List ℕ). Reaches t c.args.room lexer.at reading.lexemes) text_is
+    (subst (λ (r : ℕ). Reaches lexer.text.now r lexer.at reading.lexemes) c.loop-lexer.invariant.room_is reading.read.reaches)),
+    c.from_vec.ensures ∙ reading.read.tokens_are)
+
+pub returns-clause-read : goal.returns-clause-read
+returns-clause-read c = whole (goal.at.returns-clause-read c).After-from_vec
+
+pub returns-clause-only : goal.returns-clause-only
+returns-clause-only c = λ outcome is. same_outcome c.args.text.now c.args.room (Ok c.from_vec.result) outcome (whole (goal.at.returns-clause-only c).After-from_vec) is

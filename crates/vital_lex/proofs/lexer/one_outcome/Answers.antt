@@ -1,0 +1,5 @@
+use Rattle.vital_lex.proofs.Outcomes.{exactly_one}
+use Rattle.vital_lex.proofs.lexer.one_outcome.Goals as goal
+
+pub returns : goal.returns
+returns c = λ text room. exactly_one text room

@@ -1,0 +1,24 @@
+-- What is found at an offset of a text.
+use Rattle.std.specs.Prelude.{◌≡◌, ℕ, ◌+◌, ◌<◌, Bool, ◌||◌, ◌==◌, List, [], ◌∷◌, length, slice_index, Option, Some, None, MatchOption}
+use Rattle.vital_lex.specs.Bytes.{is_letter, is_digit}
+use Rattle.vital_lex.specs.Delimiters.{delimiters}
+use Rattle.vital_lex.specs.Forms.{kind_in}
+use Rattle.vital_lex.specs.Pieces.{IsLexeme, NoneFits, is_lexeme}
+use Rattle.vital_lex.specs.declared.kinds.Kind.{Kind}
+use Rattle.vital_lex.specs.declared.lexemes.Found.{Found}
+
+-- A byte that begins an identifier or a literal, or is an apostrophe.
+abbrev pub begins_word_or_literal : ℕ → Bool
+begins_word_or_literal b = is_letter b || is_digit b || b == 92 || b == 34 || b == 39
+
+-- The longest lexeme at `at` is found, or none fits there.
+abbrev pub IsFound : Option Kind → List ℕ → ℕ → Option Found → Type 0
+IsFound before text at found =
+    MatchOption found (NoneFits (is_lexeme before) text at) (λ f. IsLexeme before text at f.end f.kind)
+
+-- The kind of the bytes at `at` and after it in the table of delimiters, where there are two.
+abbrev pub IsCompound : List ℕ → ℕ → Option Kind → Type 0
+IsCompound text at (Some kind) =
+    (at + 1 < length text) × (kind_in delimiters (slice_index text at ∷ slice_index text (at + 1) ∷ []) ≡ Some kind)
+IsCompound text at None =
+    at + 1 < length text → kind_in delimiters (slice_index text at ∷ slice_index text (at + 1) ∷ []) ≡ None

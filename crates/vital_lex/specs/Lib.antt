@@ -1,0 +1,11 @@
+pub mod Bytes
+pub mod Delimiters
+pub mod Finding
+pub mod Forms
+pub mod Kinds
+pub mod Nesting
+pub mod Outcome
+pub mod Pieces
+pub mod Places
+pub mod Reading
+pub mod ReservedWords

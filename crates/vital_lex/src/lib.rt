@@ -1,0 +1,19 @@
+//! The lexemes of a VHDL text.
+#![tactic(auto)]
+
+mod bytes;
+mod delimiters;
+mod ends;
+mod faults;
+mod kinds;
+mod lexemes;
+mod lexer;
+mod places;
+mod token_list;
+mod words;
+
+pub use faults::{LexError, TextFault, Why};
+pub use kinds::Kind;
+pub use lexer::{lex_vhdl, one_outcome};
+pub use places::line_column;
+pub use token_list::{Token, Tokens};
