@@ -1,13 +1,12 @@
 ghost use Rattle.std.specs.Prelude.{◌≡◌, false};
 
+use crate::failed::Failed;
+use crate::name::Name;
+use crate::shelf::Shelf;
 use std::fs;
 use std::io::Read;
 use std::marker::Model;
 use std::rt::Files;
-
-use crate::failed::Failed;
-use crate::name::Name;
-use crate::shelf::Shelf;
 
 /// The files of the system, of which nothing is told or steady. A name that is not UTF-8, and an error of opening or of
 /// reading, an interrupted call among them, are faults.
@@ -25,8 +24,8 @@ impl<R: Files> Model for FileShelf<R> {
     ghost Value = { FileShelfState };
 
     ghost view = { λ s. record {
-        is_open = is_some s.file;
-        faults = s.faults;
+      is_open = is_some s.file;
+      faults = s.faults;
     } };
 }
 

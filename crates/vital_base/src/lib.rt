@@ -14,6 +14,8 @@ mod ports;
 mod shelf;
 mod sink;
 mod std_sink;
+#[cfg(test)]
+mod tests;
 mod time;
 mod word;
 mod write;

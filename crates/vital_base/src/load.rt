@@ -54,7 +54,7 @@ impl From<AllocError> for LoadError {
 ///
 /// The shelf opens it at its start, in place of a file that was open, before any memory is taken. At most
 /// `LONGEST_FILE + 1` reads succeed: each but the last takes one or more bytes, and the reading ends with the first byte too
-/// many.
+/// many. What is left of the file after the call is not told: the next call opens its own.
 pub fn read_file<S: Shelf>(alloc: Global, shelf: &mut S, name: &Name) -> Result<Bytes, LoadError>
     ensures keeps_files { S.files shelf.new ≡ S.files shelf.old }
     ensures stays_steady { S.is_steady shelf.old → S.is_steady shelf.new }

@@ -4,13 +4,12 @@ ghost use Rattle.vital_base.specs.Faults.{counted};
 ghost use Rattle.vital_base.specs.MemShelves.{file_named, left_of};
 ghost use Rattle.vital_base.specs.Shelves.{TakesNext};
 
-use std::marker::Model;
-
 use crate::bytes::Bytes;
 use crate::failed::{Failed, is_listed};
 use crate::list::List;
 use crate::name::Name;
 use crate::shelf::Shelf;
+use std::marker::Model;
 
 /// A file in memory: its name, and its bytes.
 #[derive(Debug, Drop)]
@@ -45,12 +44,12 @@ impl Model for MemShelf {
     ghost Value = { MemShelfState };
 
     ghost view = { λ s. record {
-        files = s.files;
-        piece = s.piece;
-        fails = s.fails;
-        calls = s.calls;
-        faults = s.faults;
-        opened = option_map (left_of s.files) s.place;
+      files = s.files;
+      piece = s.piece;
+      fails = s.fails;
+      calls = s.calls;
+      faults = s.faults;
+      opened = option_map (left_of s.files) s.place;
     } };
 
     ghost invariant = { λ s. 1 ≤ s.piece };
@@ -120,9 +119,14 @@ impl Shelf for MemShelf {
             ↔ (Contains self.old.fails (counted self.old.calls) ⊎ (file_named self.old.files name.now ≡ None)) }
         ensures ok_is_there { OnOk result (IsSome (file_named self.old.files name.now)) }
         ensures ok_opens { OnOk result (self.new ≡ record self.old {
-            calls = counted self.old.calls; opened = file_named self.old.files name.now }) }
+          calls = counted self.old.calls;
+          opened = file_named self.old.files name.now;
+        }) }
         ensures err_counts { OnErr result (self.new ≡ record self.old {
-            calls = counted self.old.calls; faults = counted self.old.faults; opened = None }) }
+          calls = counted self.old.calls;
+          faults = counted self.old.faults;
+          opened = None;
+        }) }
     {
         self.calls = self.calls.saturating_add(1);
         self.place = None;
@@ -150,9 +154,13 @@ impl Shelf for MemShelf {
         ensures ok_takes_next { IfOk result (λ count. TakesNext count piece.new self.old.opened self.new.opened) }
         ensures ok_takes_none_at_end { IfOk result (λ count. count ≡ 0 → self.old.opened ≡ Some []) }
         ensures ok_keeps { OnOk result (self.new ≡ record self.old {
-            calls = counted self.old.calls; opened = self.new.opened }) }
+          calls = counted self.old.calls;
+          opened = self.new.opened;
+        }) }
         ensures err_counts { OnErr result (self.new ≡ record self.old {
-            calls = counted self.old.calls; faults = counted self.old.faults }) }
+          calls = counted self.old.calls;
+          faults = counted self.old.faults;
+        }) }
     {
         self.calls = self.calls.saturating_add(1);
         if is_listed(self.fails.as_slice(), self.calls) {

@@ -1,12 +1,11 @@
 ghost use Rattle.std.specs.Prelude.{◌≡◌, ◌<◌, ◌++◌, [], length, take, min, Contains, IfOk, OnErr, IsErr};
 ghost use Rattle.vital_base.specs.Faults.{counted};
 
-use std::alloc::Global;
-use std::marker::Model;
-
 use crate::failed::{Failed, is_listed};
 use crate::list::List;
 use crate::sink::Sink;
+use std::alloc::Global;
+use std::marker::Model;
 
 /// A sink over memory, which tells its bytes. Its writes fail where it is told to.
 #[derive(Debug, Drop)]
@@ -24,11 +23,11 @@ impl Model for MemSink {
     ghost Value = { MemSinkState };
 
     ghost view = { λ s. record {
-        bytes = s.bytes.items;
-        piece = s.piece;
-        fails = s.fails;
-        calls = s.calls;
-        faults = s.faults;
+      bytes = s.bytes.items;
+      piece = s.piece;
+      fails = s.fails;
+      calls = s.calls;
+      faults = s.faults;
     } };
 }
 
@@ -70,9 +69,13 @@ impl Sink for MemSink {
         ensures fails_where_listed { Contains self.old.fails (counted self.old.calls) → IsErr result }
         ensures ok_takes { IfOk result (λ count. count ≡ min (length piece.now) self.old.piece) }
         ensures ok_appends { IfOk result (λ count. self.new ≡ record self.old {
-            bytes = self.old.bytes ++ take count piece.now; calls = counted self.old.calls }) }
+          bytes = self.old.bytes ++ take count piece.now;
+          calls = counted self.old.calls;
+        }) }
         ensures err_counts { OnErr result (self.new ≡ record self.old {
-            calls = counted self.old.calls; faults = counted self.old.faults }) }
+          calls = counted self.old.calls;
+          faults = counted self.old.faults;
+        }) }
     {
         self.calls = self.calls.saturating_add(1);
         if is_listed(self.fails.as_slice(), self.calls) {

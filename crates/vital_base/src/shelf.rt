@@ -1,4 +1,4 @@
-ghost use Rattle.std.specs.Prelude.{◌≡◌, ℕ, ◌<◌, ◌≤◌, List, [], length, Option, None, Some, IfOk, OnOk, OnErr, IsErr, IfSome};
+ghost use Rattle.std.specs.Prelude.{◌≡◌, ℕ, ◌<◌, ◌≤◌, List, [], length, Option, None, Some, IfOk, OnOk, OnErr, IsErr, IsSome, IfSome};
 ghost use Rattle.vital_base.specs.Faults.{Rose};
 ghost use Rattle.vital_base.specs.Shelves.{Files, OpensWhole, TakesNext};
 
@@ -30,6 +30,7 @@ pub trait Shelf {
         ensures never_falls { faults self.old ≤ faults self.new }
 
         ensures ok_leaves_count { OnOk result (faults self.new ≡ faults self.old) }
+        ensures ok_opens { OnOk result (IsSome (opened self.new)) }
         ensures ok_opens_whole { OnOk result (IfSome (files self.old) (λ told.
             OpensWhole told name.now (opened self.new))) }
 

@@ -1,9 +1,8 @@
 ghost use Rattle.std.specs.Prelude.{◌≡◌};
 
-use std::marker::Model;
-
 use crate::failed::Failed;
 use crate::sink::Sink;
+use std::marker::Model;
 
 /// Standard output, of which nothing is told. It keeps no buffer: a write goes out at once. An error of writing, an
 /// interrupted write among them, is a fault.

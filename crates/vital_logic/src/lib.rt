@@ -2,5 +2,7 @@
 #![tactic(auto)]
 
 mod level;
+#[cfg(test)]
+mod tests;
 
 pub use level::{Level, from_byte, to_byte};

@@ -6,7 +6,7 @@ use Rattle.vital_base.proofs.mem_shelf.MemShelfShelf.open.Goals as goal
 pub returns-in-None-clause-fails : goal.returns-in-None-clause-fails
 returns-in-None-clause-fails c =
     let missing : file_named c.as_slice-files.result.now c.as_slice-bytes.result.now ≡ None =
-        named_none c.as_slice-files.result.now c.as_slice-bytes.result.now c.in-None.ensures in
+    named_none c.as_slice-files.result.now c.as_slice-bytes.result.now c.in-None.ensures in
     let files : c.as_slice-files.result.now ≡ c.args.self.now.files = c.as_slice-files.ensures ∙ ap (λ (s : MemShelfState). s.files) c.self.view_is in
     (λ _. inr (rw (← files, ← c.as_slice-bytes.ensures) missing), λ _. refl)
 
