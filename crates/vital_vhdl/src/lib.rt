@@ -1,0 +1,26 @@
+//! VHDL files as units with a place on each node, and files as a library.
+#![tactic(auto)]
+
+mod cursor;
+mod decl;
+mod expr;
+mod expressions;
+mod operators;
+mod place;
+mod shared;
+mod spot;
+mod stmt;
+mod unit;
+
+pub use decl::{
+    Alias, Bounds, Component, Decl, Designator, EntityClass, Iface, IfaceClass, IfaceParts, Mode,
+    ObjectClass, ObjectParts, Specification, Subtype,
+};
+pub use expr::{
+    Actual, Adding, Choice, Direction, Expr, Identifier, Item, Logical, Multiplying, Physical,
+    Reference, Relational, Sign, Suffix,
+};
+pub use place::Place;
+pub use shared::Shared;
+pub use stmt::{Assignment, Block, Branch, Conc, Maps, Process, Stmt};
+pub use unit::{Arch, Config, Entity, Pack, Role, Unit, Units};
