@@ -1,1 +1,2 @@
+pub mod Predictive
 pub mod Turns

@@ -49,3 +49,9 @@ runs_out {item = item} {n = n} {at = at} {found = found} {i = i} so_far done =
 -- one level less
 pub deeper : {X : Type 0} (f : ℕ → X) (n : ℕ) → 0 < n → f n ≡ f (suc (n - 1))
 deeper f n some = let e : n ≡ suc (n - 1) = omega arith in ap f e
+
+-- a turn that a function has added to the list
+pub appends : {A : Type 0} {item : ℕ → Reader (List A)} {n at : ℕ} {found : List A} {i j : Input} {c : ℕ} {new : List A} {k : Input} {read : List A × Input} → IsRead item n at found i read
+    → at < n → choice i ≡ (c, j) → c ≢ 0 → (new ≡ found ++ (item c j).0) × (k ≡ (item c j).1) → IsRead item n (at + 1) new k read
+appends {A} {item = item} {n = n} {at = at} {i = i} {j = j} {c = c} {k = k} {read = read} so_far below chose some gives =
+    rw (gives.0, gives.1) (adds {k = (item c j).1} {xs = (item c j).0} so_far below chose some refl)

@@ -6,3 +6,7 @@ pub mod Nesting
 pub mod Declarations
 pub mod Statements
 pub mod Shapes
+pub mod Branching
+pub mod Rows
+pub mod Grammar
+pub mod Tables

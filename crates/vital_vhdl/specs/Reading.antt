@@ -160,3 +160,8 @@ separated item = item >>= λ x. more (λ _. after item) (x ∷ [])
 -- id { "," id }
 unfoldable pub identifiers : Reader (List Identifier)
 identifiers = separated identifier
+
+-- the same of a function that adds what it reads to a list
+abbrev pub Appends : {A : Type 0} → List A × Input → Result (Unit {0}) AllocError → List A → List A → Input → Type 0
+Appends read (Ok u) old new next = (new ≡ old ++ read.0) × (next ≡ read.1)
+Appends read (Err e) old new next = Unit {0}

@@ -146,6 +146,23 @@ unlabelled p first = do
   found ← suffix_list
   after_target p (roll-Reference (record { place = first.place; name = first.name; suffixes = found }))
 
+-- "component" name maps ";"
+unfoldable pub component_instance : Place → Identifier → Reader Conc
+component_instance p label = do
+  skip
+  called ← name
+  joined ← maps
+  skip
+  pure (c.Component p label called joined)
+
+-- name maps ";"
+unfoldable pub instance : Place → Identifier → Reader Conc
+instance p label = do
+  called ← name
+  joined ← maps
+  skip
+  pure (c.Instance p label called joined)
+
 -- The parameter reads the statements of a block.
 module _ (inner : Reader (List Conc)) where
   -- "block" [ "is" ] { decl } "begin" { conc } "end" "block" [ id ] ";"
@@ -166,26 +183,21 @@ module _ (inner : Reader (List Conc)) where
   unfoldable pub labelled : Place → Identifier → Reader Conc
   labelled p label = do
     form ← choice
-    if form == 0 then (process >>= λ x. pure (c.Process p (Some label) x)) else (if form == 1 then (do
-      skip
-      called ← name
-      joined ← maps
-      skip
-      pure (c.Component p label called joined)) else (if form == 2 then (do
-      called ← name
-      joined ← maps
-      skip
-      pure (c.Instance p label called joined)) else (block >>= λ x. pure (c.Block p label x))))
+    if form == 0 then (process >>= λ x. pure (c.Process p (Some label) x)) else (if form == 1 then component_instance p label else (if form == 2 then instance p label else (block >>= λ x. pure (c.Block p label x))))
 
-  -- conc = process | id ( ":" labelled | suffixes ( ";" | "<=" expr [ "after" expr ] ";" ) )
+  -- id ( ":" labelled | suffixes ( ";" | "<=" expr [ "after" expr ] ";" ) )
+  unfoldable pub after_identifier : Place → Reader Conc
+  after_identifier p = do
+    first ← identifier
+    next ← choice
+    if next == 0 then skip >> labelled p first else unlabelled p first
+
+  -- conc = process | id ( ":" labelled | .. )
   unfoldable pub conc : Reader Conc
   conc = do
     form ← choice
     p ← place
-    if form == 0 then (process >>= λ x. pure (c.Process p None x)) else (do
-      first ← identifier
-      next ← choice
-      if next == 0 then skip >> labelled p first else unlabelled p first)
+    if form == 0 then (process >>= λ x. pure (c.Process p None x)) else after_identifier p
 
 -- { conc }, with so many levels of blocks in them, or fewer; each level takes a step
 unfoldable pub concs_within : ℕ → Reader (List Conc)

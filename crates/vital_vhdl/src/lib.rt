@@ -1,16 +1,21 @@
 //! VHDL files as units with a place on each node, and files as a library.
 #![tactic(auto)]
 
+mod concs;
 mod cursor;
 mod decl;
+mod declarations;
 mod expr;
 mod expressions;
+mod identifiers;
 mod operators;
 mod place;
 mod shared;
 mod spot;
+mod statements;
 mod stmt;
 mod unit;
+mod units;
 
 pub use decl::{
     Alias, Bounds, Component, Decl, Designator, EntityClass, Iface, IfaceClass, IfaceParts, Mode,
