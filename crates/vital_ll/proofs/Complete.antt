@@ -1,12 +1,12 @@
 -- Marks that are closed under the rules hold every choice set.
-use Rattle.std.proofs.Common.{◌≡◌, ℕ, ◌+◌, ◌<◌, ◌≤◌, Bool, true, false, ◌&&◌, ◌||◌, eqb, List, [], ◌∷◌, ◌++◌, length, Option, Some, None, refl, sym, ap, ◌∙◌, subst, append_assoc, arith, inl, inr, ◌⊎◌}
+use Rattle.std.proofs.Common.{◌≡◌, ℕ, Bool, true, false, ◌&&◌, List, [], ◌∷◌, ◌++◌, Some, refl, sym, ap, ◌∙◌, subst, append_assoc, inl, inr, ◌⊎◌}
 use Rattle.std.proofs.lemmas.Bool.{eq-eqb, and_from, or_left, or_right, and_parts}
 use Rattle.vital_ll.specs.declared.grammar.Sym.{Sym}
 use Rattle.vital_ll.specs.declared.grammar.Sym.TheVariants.{Token, Rule}
 use Rattle.vital_ll.specs.declared.derivation.Step.{Step}
 use Rattle.vital_ll.specs.Grammar.{Grammar, alternative_of, Derives, nothing, token, rule}
 use Rattle.vital_ll.specs.Sentence.{end_mark}
-use Rattle.vital_ll.specs.Choice.{CanBegin, CanBeEmpty, IsForm, start, replaced, Follows, IsChoice}
+use Rattle.vital_ll.specs.Choice.{CanBegin, CanBeEmpty, IsForm, start, replaced, IsChoice}
 use Rattle.vital_ll.specs.Marks.{Marks, empties, begins, EmptyClosed, FirstClosed, ReachClosed, FollowClosed}
 use Rattle.vital_ll.proofs.Deriving.{Derives-append, Derives-split, derives_at}
 
@@ -48,8 +48,8 @@ begins_complete nullable first t after empty_closed first_closed nothing more e 
 begins_complete nullable first t after empty_closed first_closed (token {t = u} d) more e = eq-eqb u t cc
 begins_complete {g} nullable first t after empty_closed first_closed (rule {r = r} {a = a} {chosen = chosen} {rest = rest} {us = us} {vs = vs} {below = below} is d later) more e =
     rule_begins g nullable first t after r a chosen rest us vs below empty_closed first_closed is d more e
-      (λ m f. begins_complete nullable first t false empty_closed first_closed d m f)
-      (λ m f. begins_complete nullable first t after empty_closed first_closed later m f)
+    (λ m f. begins_complete nullable first t false empty_closed first_closed d m f)
+    (λ m f. begins_complete nullable first t after empty_closed first_closed later m f)
 
 -- past rules that can be empty, what comes after
 begins_after : (nullable first : Marks) (t : ℕ) (symbols : List Sym) → empties nullable symbols ≡ true → begins nullable first t true symbols ≡ true
@@ -86,18 +86,19 @@ side [] x q (y ∷ a) b e =
 side (z ∷ p) x q (y ∷ a) b e =
     let heads : y ≡ z = cc in let tails : a ++ b ≡ p ++ x ∷ q = cc in
     elim (side p x q a b tails) [
-      inl f ↦ inl (record { between = f.between; first_is = ap (λ w. w ∷ a) heads ∙ ap (λ l. z ∷ l) f.first_is; rest_is = f.rest_is })
-    | inr s ↦ inr (record { between = s.between; front_is = ap (λ l. z ∷ l) s.front_is ∙ ap (λ w. w ∷ (a ++ s.between)) (sym heads); second_is = s.second_is }) ]
+      | inl f ↦ inl (record { between = f.between; first_is = ap (λ w. w ∷ a) heads ∙ ap (λ l. z ∷ l) f.first_is; rest_is = f.rest_is })
+      | inr s ↦ inr (record { between = s.between; front_is = ap (λ l. z ∷ l) s.front_is ∙ ap (λ w. w ∷ (a ++ s.between)) (sym heads); second_is = s.second_is })
+    ]
 
 -- the first symbols of what is joined begin with the token, or are empty before what does
 pub begins_split : {g : Grammar} (xs ys : List Sym) (t : ℕ) → CanBegin g (xs ++ ys) t → CanBegin g xs t ⊎ (CanBeEmpty g xs × CanBegin g ys t)
 begins_split {g} xs ys t (rest, tree, d) =
     let p = Derives-split xs ys d refl in
     go p.us p.vs p.below p.after p.front p.back p.tokens_are
-    where
-      go : (us vs : List ℕ) (below after : List Step) → Derives g xs us below → Derives g ys vs after → t ∷ rest ≡ us ++ vs → CanBegin g xs t ⊎ (CanBeEmpty g xs × CanBegin g ys t)
-      go [] vs below after front back e = inr ((below, front), (rest, after, derives_at (sym e) refl back))
-      go (u ∷ us) vs below after front back e = let same : u ≡ t = cc in inl (us, below, derives_at (ap (λ (x : ℕ). x ∷ us) same) refl front)
+  where
+    go : (us vs : List ℕ) (below after : List Step) → Derives g xs us below → Derives g ys vs after → t ∷ rest ≡ us ++ vs → CanBegin g xs t ⊎ (CanBeEmpty g xs × CanBegin g ys t)
+    go [] vs below after front back e = inr ((below, front), (rest, after, derives_at (sym e) refl back))
+    go (u ∷ us) vs below after front back e = let same : u ≡ t = cc in inl (us, below, derives_at (ap (λ (x : ℕ). x ∷ us) same) refl front)
 
 -- a rule derives what its alternative does
 begins_folded : {g : Grammar} (before chosen after : List Sym) (r a t : ℕ) → alternative_of g r a ≡ Some chosen → CanBegin g (before ++ (chosen ++ after)) t →
@@ -122,10 +123,11 @@ not_nil (y ∷ p) x q e = cc
 
 marked_start : (g : Grammar) (reached follow : Marks) (t : ℕ) → reached 0 ≡ true → (t ≡ end_mark → follow 0 ≡ true) → AreMarked g reached follow t (Rule 0 ∷ Token end_mark ∷ [])
 marked_start g reached follow t at_first at_end [] q r e =
-    let same : r ≡ 0 = cc in let rest : q ≡ Token end_mark ∷ [] = cc in
-    (subst (λ (x : ℕ). reached x ≡ true) (sym same) at_first,
-     λ (more, tree, d). subst (λ (x : ℕ). follow x ≡ true) (sym same)
-       (at_end (sym (begins_token (subst (λ (l : List Sym). Derives g l (t ∷ more) tree) rest d) refl))))
+    let same : r ≡ 0 = cc in let rest : q ≡ Token end_mark ∷ [] = cc in (
+      subst (λ (x : ℕ). reached x ≡ true) (sym same) at_first,
+      λ (more, tree, d). subst (λ (x : ℕ). follow x ≡ true) (sym same)
+          (at_end (sym (begins_token (subst (λ (l : List Sym). Derives g l (t ∷ more) tree) rest d) refl))),
+    )
 marked_start g reached follow t at_first at_end (x ∷ []) q r e = absurd (cc)
 marked_start g reached follow t at_first at_end (x ∷ y ∷ p) q r e = absurd (not_nil p (Rule r) q (let f : [] ≡ p ++ Rule r ∷ q = cc in f))
 
@@ -134,22 +136,26 @@ marked_replaced : (g : Grammar) (nullable first reached follow : Marks) (t : ℕ
     alternative_of g r a ≡ Some chosen → AreMarked g reached follow t (before ++ Rule r ∷ after) → AreMarked g reached follow t (before ++ (chosen ++ after))
 marked_replaced g nullable first reached follow t before after chosen r a empty_closed first_closed reach_closed follow_closed is old p q s e =
     elim (side p (Rule s) q before (chosen ++ after) e) [
-      inl f ↦
-        let here = old p (f.between ++ Rule r ∷ after) s (ap (λ (l : List Sym). l ++ Rule r ∷ after) f.first_is ∙ append_assoc p (Rule s ∷ f.between) (Rule r ∷ after)) in
-        (here.0, λ b. here.1 (begins_folded f.between chosen after r a t is (subst (λ (l : List Sym). CanBegin g l t) f.rest_is b)))
-    | inr f ↦ elim (side f.between (Rule s) q chosen after f.second_is) [
-        inl h ↦
-          let here = old before after r refl in
-          let chosen_is : alternative_of g r a ≡ Some (f.between ++ Rule s ∷ h.between) = is ∙ ap Some h.first_is in
-          (reach_closed r a s f.between h.between chosen_is here.0,
-           λ b. follow_closed r a s f.between h.between chosen_is here.0
-             (begins_either nullable first t (follow r) h.between empty_closed first_closed
-               (elim (begins_split h.between after t (subst (λ (l : List Sym). CanBegin g l t) h.rest_is b)) [
-                 inl x ↦ inl x
-               | inr x ↦ inr (x.0, here.1 x.1) ])))
-      | inr h ↦
-          old (before ++ Rule r ∷ h.between) q s
-            (ap (λ (l : List Sym). before ++ Rule r ∷ l) h.second_is ∙ sym (append_assoc before (Rule r ∷ h.between) (Rule s ∷ q))) ] ]
+      | inl f ↦
+          let here = old p (f.between ++ Rule r ∷ after) s (ap (λ (l : List Sym). l ++ Rule r ∷ after) f.first_is ∙ append_assoc p (Rule s ∷ f.between) (Rule r ∷ after)) in
+          (here.0, λ b. here.1 (begins_folded f.between chosen after r a t is (subst (λ (l : List Sym). CanBegin g l t) f.rest_is b)))
+      | inr f ↦ elim (side f.between (Rule s) q chosen after f.second_is) [
+        | inl h ↦
+            let here = old before after r refl in
+            let chosen_is : alternative_of g r a ≡ Some (f.between ++ Rule s ∷ h.between) = is ∙ ap Some h.first_is in (
+              reach_closed r a s f.between h.between chosen_is here.0,
+              λ b. follow_closed r a s f.between h.between chosen_is here.0
+                  (begins_either nullable first t (follow r) h.between empty_closed first_closed
+                  (elim (begins_split h.between after t (subst (λ (l : List Sym). CanBegin g l t) h.rest_is b)) [
+                    | inl x ↦ inl x
+                    | inr x ↦ inr (x.0, here.1 x.1)
+                  ])),
+            )
+        | inr h ↦
+            old (before ++ Rule r ∷ h.between) q s
+            (ap (λ (l : List Sym). before ++ Rule r ∷ l) h.second_is ∙ sym (append_assoc before (Rule r ∷ h.between) (Rule s ∷ q)))
+      ]
+    ]
 
 -- each rule of each form is reached, and marked where what comes after it begins with the token
 pub forms_marked : (g : Grammar) (nullable first reached follow : Marks) (t : ℕ) {form : List Sym} →
@@ -159,7 +165,7 @@ forms_marked g nullable first reached follow t empty_closed first_closed reach_c
     marked_start g reached follow t at_first at_end
 forms_marked g nullable first reached follow t empty_closed first_closed reach_closed follow_closed at_first at_end (replaced before after chosen r a form is) =
     marked_replaced g nullable first reached follow t before after chosen r a empty_closed first_closed reach_closed follow_closed is
-      (forms_marked g nullable first reached follow t empty_closed first_closed reach_closed follow_closed at_first at_end form)
+    (forms_marked g nullable first reached follow t empty_closed first_closed reach_closed follow_closed at_first at_end form)
 
 -- what the marks of one token have to be for them to hold each choice set
 pub record AreClosed (g : Grammar) (nullable first reached follow : Marks) (t : ℕ) : Type 0 where
@@ -176,8 +182,9 @@ pub choice_marked : (g : Grammar) (nullable first reached follow : Marks) (t r a
 choice_marked g nullable first reached follow t r a chosen closed is (found, found_is, how) =
     let same : found ≡ chosen = cc in
     subst (λ (l : List Sym). begins nullable first t (follow r) l ≡ true) same
-      (begins_either nullable first t (follow r) found closed.empty_closed closed.first_closed
-        (elim how [
-          inl b ↦ inl b
-        | inr (empty, (before, after, form, b)) ↦
-            inr (empty, (forms_marked g nullable first reached follow t closed.empty_closed closed.first_closed closed.reach_closed closed.follow_closed closed.at_first closed.at_end form before after r refl).1 b) ]))
+    (begins_either nullable first t (follow r) found closed.empty_closed closed.first_closed
+    (elim how [
+      | inl b ↦ inl b
+      | inr (empty, (before, after, form, b)) ↦
+          inr (empty, (forms_marked g nullable first reached follow t closed.empty_closed closed.first_closed closed.reach_closed closed.follow_closed closed.at_first closed.at_end form before after r refl).1 b)
+    ]))

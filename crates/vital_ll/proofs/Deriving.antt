@@ -1,5 +1,5 @@
 -- Derivations of lists of symbols: joined, split, and read from the left.
-use Rattle.std.proofs.Common.{◌≡◌, ℕ, ◌+◌, ◌<◌, ◌≤◌, List, [], ◌∷◌, ◌++◌, length, Option, Some, None, map, refl, sym, ap, ◌∙◌, subst, append_assoc, arith, inl, inr, ◌⊎◌}
+use Rattle.std.proofs.Common.{◌≡◌, ℕ, List, [], ◌∷◌, ◌++◌, Some, refl, sym, ap, ◌∙◌, subst, append_assoc}
 use Rattle.std.proofs.lemmas.List.{append-nil}
 use Rattle.vital_ll.specs.declared.grammar.Sym.{Sym}
 use Rattle.vital_ll.specs.declared.grammar.Sym.TheVariants.{Token, Rule}
@@ -14,10 +14,10 @@ step r a = record { rule = r; alternative = a }
 pub data Reads (g : Grammar) : List Sym → List ℕ → List Step → Type 0 where
   over : Reads g [] [] []
   take_token : {t : ℕ} {rest : List Sym} {tokens : List ℕ} {tree : List Step} →
-    Reads g rest tokens tree → Reads g (Token t ∷ rest) (t ∷ tokens) tree
+      Reads g rest tokens tree → Reads g (Token t ∷ rest) (t ∷ tokens) tree
   expand : {r a : ℕ} {chosen rest : List Sym} {tokens : List ℕ} {tree : List Step} →
-    alternative_of g r a ≡ Some chosen → Reads g (chosen ++ rest) tokens tree →
-    Reads g (Rule r ∷ rest) tokens (step r a ∷ tree)
+      alternative_of g r a ≡ Some chosen → Reads g (chosen ++ rest) tokens tree →
+      Reads g (Rule r ∷ rest) tokens (step r a ∷ tree)
 
 -- the parts of a derivation of two lists of symbols
 pub record Parts (g : Grammar) (xs ys : List Sym) (tokens : List ℕ) (tree : List Step) : Type 0 where

@@ -6,3 +6,7 @@ pub mod Complete
 pub mod Sound
 pub mod Turns
 pub mod Listings
+pub mod Passing
+pub mod Made
+pub mod Filling
+pub mod ByTables

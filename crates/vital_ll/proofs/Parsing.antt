@@ -1,5 +1,5 @@
 -- The state of reading: the tokens taken, the stack and the steps written.
-use Rattle.std.proofs.Common.{◌≡◌, ℕ, ◌+◌, ◌<◌, ◌≤◌, List, [], ◌∷◌, ◌++◌, length, reverse, take, get_or, Option, Some, None, All, refl, sym, ap, ◌∙◌, subst, append_assoc, arith, Bool, true, false, IsTrue, IsSome, is_some, unwrap_or, ◌↔◌}
+use Rattle.std.proofs.Common.{◌≡◌, ℕ, ◌+◌, ◌<◌, ◌≤◌, List, [], ◌∷◌, ◌++◌, length, reverse, take, get_or, Option, Some, None, sym, ap, ◌∙◌, subst, append_assoc, arith, Bool, true, false, IsTrue, IsSome, is_some, unwrap_or, ◌↔◌}
 use Rattle.std.proofs.lemmas.List.{reverse-append, take_more, take_all, get_or_past}
 use Rattle.std.proofs.lemmas.List.Elements.{All-head}
 use Rattle.vital_ll.specs.declared.grammar.Sym.{Sym}
@@ -8,8 +8,8 @@ use Rattle.vital_ll.specs.declared.derivation.Step.{Step}
 use Rattle.vital_ll.specs.Grammar.{Grammar, alternative_of}
 use Rattle.vital_ll.specs.Sentence.{end_mark, IsTreeOf, IsRefusedAt}
 use Rattle.vital_ll.specs.Choice.{IsChoice, IsNamed, IsWellFormed}
-use Rattle.vital_ll.proofs.Deriving.{step, Reads}
-use Rattle.vital_ll.proofs.Progress.{whole, IsProgress, IsProgress-start, IsProgress-take, IsProgress-expand, none_derives, refused_at, stuck_token, stuck_rule, done}
+use Rattle.vital_ll.proofs.Deriving.{step}
+use Rattle.vital_ll.proofs.Progress.{IsProgress, IsProgress-start, IsProgress-take, IsProgress-expand, none_derives, refused_at, stuck_token, stuck_rule, done}
 
 -- the symbols that are left stand on the stack, the first of them topmost, above the end mark
 pub record IsParsing (g : Grammar) (tokens : List ℕ) (taken : ℕ) (stack : List Sym) (steps : List Step) : Type 0 where
@@ -25,8 +25,8 @@ pub parsing_start : (g : Grammar) (tokens : List ℕ) (stack : List Sym) (steps 
     IsParsing g tokens 0 stack steps
 parsing_start g tokens stack steps well stack_is steps_is =
     subst (λ (s : List Sym). IsParsing g tokens 0 s steps) (sym stack_is)
-      (subst (λ (t : List Step). IsParsing g tokens 0 (Rule 0 ∷ []) t) (sym steps_is)
-        (record { well_formed = well; within = omega arith; progress = IsProgress-start g (get_or tokens 0 end_mark) well.some_rule }))
+    (subst (λ (t : List Step). IsParsing g tokens 0 (Rule 0 ∷ []) t) (sym steps_is)
+    (record { well_formed = well; within = omega arith; progress = IsProgress-start g (get_or tokens 0 end_mark) well.some_rule }))
 
 -- with a symbol taken from the stack
 popped : (g : Grammar) (tokens : List ℕ) (k : ℕ) (old new : List Sym) (x : Sym) (steps : List Step) → IsParsing g tokens k old steps → old ≡ new ++ x ∷ [] →
@@ -48,9 +48,12 @@ take_token g tokens k old new t steps p e inside is =
     let q = popped g tokens k old new (Token t) steps p e in
     let at_token = subst (λ (x : ℕ). IsProgress g (take k tokens) x (Token t ∷ (reverse new ++ Token end_mark ∷ [])) steps) is q in
     let taken = IsProgress-take g (take k tokens) t (get_or tokens (k + 1) end_mark) (reverse new ++ Token end_mark ∷ []) steps at_token in
-    record { well_formed = p.well_formed; within = omega arith;
+    record {
+      well_formed = p.well_formed;
+      within = omega arith;
       progress = subst (λ (l : List ℕ). IsProgress g l (get_or tokens (k + 1) end_mark) (reverse new ++ Token end_mark ∷ []) steps)
-        (sym (take_more tokens k end_mark inside ∙ ap (λ (x : ℕ). take k tokens ++ x ∷ []) is)) taken }
+          (sym (take_more tokens k end_mark inside ∙ ap (λ (x : ℕ). take k tokens ++ x ∷ []) is)) taken;
+    }
 
 pub rule_is_there : (g : Grammar) (tokens : List ℕ) (k : ℕ) (old new : List Sym) (r : ℕ) (steps : List Step) → IsParsing g tokens k old steps → old ≡ new ++ Rule r ∷ [] → r < length g
 rule_is_there g tokens k old new r steps p e =
@@ -62,7 +65,7 @@ refused_rule g tokens k old new r next steps p e is none =
     let q = popped g tokens k old new (Rule r) steps p e in
     let none_here = subst (λ (x : ℕ). (a : ℕ) → IsChoice g r a x → ⊥) is none in
     refuses g tokens k (refused_at g tokens k _ steps p.well_formed p.within q
-      (stuck_rule g (take k tokens) (get_or tokens k end_mark) r (reverse new ++ Token end_mark ∷ []) steps q none_here))
+    (stuck_rule g (take k tokens) (get_or tokens k end_mark) r (reverse new ++ Token end_mark ∷ []) steps q none_here))
 
 pub expand_rule : (g : Grammar) (tokens : List ℕ) (k : ℕ) (old new pushed : List Sym) (r a next : ℕ) (chosen : List Sym) (steps more : List Step) →
     IsParsing g tokens k old steps → old ≡ new ++ Rule r ∷ [] → next ≡ get_or tokens k end_mark → ((b : ℕ) → IsChoice g r b next → Some a ≡ Some b) →
@@ -71,12 +74,15 @@ expand_rule g tokens k old new pushed r a next chosen steps more p e is decided 
     let q = popped g tokens k old new (Rule r) steps p e in
     let decided_here = subst (λ (x : ℕ). (b : ℕ) → IsChoice g r b x → Some a ≡ Some b) is decided in
     let x = IsProgress-expand g (take k tokens) (get_or tokens k end_mark) r a chosen (reverse new ++ Token end_mark ∷ []) steps p.well_formed q at
-      (λ b h. let s : Some a ≡ Some b = decided_here b h in let t : b ≡ a = cc in t) in
+    (λ b h. let s : Some a ≡ Some b = decided_here b h in let t : b ≡ a = cc in t) in
     let stack_is : chosen ++ (reverse new ++ Token end_mark ∷ []) ≡ reverse pushed ++ Token end_mark ∷ [] =
-      sym (append_assoc chosen (reverse new) (Token end_mark ∷ [])) ∙ ap (λ (l : List Sym). l ++ Token end_mark ∷ []) (sym pushed_is) in
-    record { well_formed = p.well_formed; within = p.within;
+    sym (append_assoc chosen (reverse new) (Token end_mark ∷ [])) ∙ ap (λ (l : List Sym). l ++ Token end_mark ∷ []) (sym pushed_is) in
+    record {
+      well_formed = p.well_formed;
+      within = p.within;
       progress = subst (λ (l : List Step). IsProgress g (take k tokens) (get_or tokens k end_mark) (reverse pushed ++ Token end_mark ∷ []) l) (sym more_is)
-        (subst (λ (l : List Sym). IsProgress g (take k tokens) (get_or tokens k end_mark) l (steps ++ step r a ∷ [])) stack_is x) }
+          (subst (λ (l : List Sym). IsProgress g (take k tokens) (get_or tokens k end_mark) l (steps ++ step r a ∷ [])) stack_is x);
+    }
 
 at_end : (g : Grammar) (tokens : List ℕ) (k : ℕ) (stack : List Sym) (steps : List Step) → IsParsing g tokens k stack steps → stack ≡ [] →
     IsProgress g (take k tokens) (get_or tokens k end_mark) (Token end_mark ∷ []) steps
@@ -87,13 +93,13 @@ pub refused_end : (g : Grammar) (tokens : List ℕ) (k : ℕ) (stack : List Sym)
     get_or tokens k end_mark < end_mark → Refuses g tokens k
 refused_end g tokens k stack steps p e low =
     refuses g tokens k (refused_at g tokens k _ steps p.well_formed p.within (at_end g tokens k stack steps p e)
-      (stuck_token g end_mark (get_or tokens k end_mark) [] (λ (same : end_mark ≡ get_or tokens k end_mark). omega arith)))
+    (stuck_token g end_mark (get_or tokens k end_mark) [] (λ (same : end_mark ≡ get_or tokens k end_mark). omega arith)))
 
 pub all_read : (g : Grammar) (tokens : List ℕ) (k : ℕ) (stack : List Sym) (steps : List Step) → IsParsing g tokens k stack steps → stack ≡ [] → length tokens ≤ k →
     IsTreeOf g tokens steps × ((other : List Step) → IsTreeOf g tokens other → other ≡ steps)
 all_read g tokens k stack steps p e past =
     done g tokens steps (subst (λ (x : ℕ). IsProgress g tokens x (Token end_mark ∷ []) steps) (get_or_past tokens k end_mark past)
-      (subst (λ (l : List ℕ). IsProgress g l (get_or tokens k end_mark) (Token end_mark ∷ []) steps) (take_all k tokens past) (at_end g tokens k stack steps p e)))
+    (subst (λ (l : List ℕ). IsProgress g l (get_or tokens k end_mark) (Token end_mark ∷ []) steps) (take_all k tokens past) (at_end g tokens k stack steps p e)))
 
 -- where the next token is of another kind, or there is none
 pub other_token : (next : Option ℕ) (kind at : ℕ) (b : Bool) → kind < end_mark → (IsTrue b ↔ (next ≡ Some kind)) → b ≡ false →

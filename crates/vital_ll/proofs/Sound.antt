@@ -1,22 +1,21 @@
 -- Marks that the rules justify hold nothing but choice sets.
-use Rattle.std.proofs.Common.{◌≡◌, ℕ, ◌+◌, ◌<◌, ◌≤◌, Bool, true, false, ◌&&◌, ◌||◌, eqb, List, [], ◌∷◌, ◌++◌, length, Option, Some, None, All, refl, sym, ap, ◌∙◌, subst, append_assoc, arith, inl, inr, ◌⊎◌}
+use Rattle.std.proofs.Common.{◌≡◌, ℕ, Bool, true, false, ◌&&◌, List, [], ◌∷◌, ◌++◌, length, Some, All, refl, sym, ap, ◌∙◌, subst, append_assoc, inl, inr, ◌⊎◌}
 use Rattle.std.proofs.lemmas.Bool.{eqb-true, and_parts, or_cases}
 use Rattle.std.proofs.lemmas.List.Elements.{All-head, All-tail, All-cons, All-nil, All-append}
 use Rattle.vital_ll.specs.declared.grammar.Sym.{Sym}
 use Rattle.vital_ll.specs.declared.grammar.Sym.TheVariants.{Token, Rule}
-use Rattle.vital_ll.specs.declared.derivation.Step.{Step}
-use Rattle.vital_ll.specs.Grammar.{Grammar, alternative_of, Derives, nothing, token, rule}
+use Rattle.vital_ll.specs.Grammar.{Grammar, alternative_of, nothing, token, rule}
 use Rattle.vital_ll.specs.Sentence.{end_mark}
 use Rattle.vital_ll.specs.Choice.{CanBegin, CanBeEmpty, IsForm, start, replaced, Follows, IsChoice, IsNamed, IsWellFormed}
-use Rattle.vital_ll.specs.Marks.{Marks, empties, begins, IsReached, EmptySound, FirstSound, ReachSound, FollowSound}
-use Rattle.vital_ll.proofs.Deriving.{Derives-append, Derives-split, derives_at}
+use Rattle.vital_ll.specs.Marks.{Marks, empties, begins, IsReached, EmptySound, FirstSound, FollowSound}
+use Rattle.vital_ll.proofs.Deriving.{Derives-append, derives_at}
 use Rattle.vital_ll.proofs.Progress.{named_alternative, derives_some}
 
-all_front : {A : Type 0} (P : A → Type 0) (xs ys : List A) → All P (xs ++ ys) → All P xs
+pub all_front : {A : Type 0} (P : A → Type 0) (xs ys : List A) → All P (xs ++ ys) → All P xs
 all_front P [] ys h = All-nil P
 all_front P (x ∷ xs) ys h = All-cons P x xs (All-head P x (xs ++ ys) h) (all_front P xs ys (All-tail P x (xs ++ ys) h))
 
-all_back : {A : Type 0} (P : A → Type 0) (xs ys : List A) → All P (xs ++ ys) → All P ys
+pub all_back : {A : Type 0} (P : A → Type 0) (xs ys : List A) → All P (xs ++ ys) → All P ys
 all_back P [] ys h = h
 all_back P (x ∷ xs) ys h = all_back P xs ys (All-tail P x (xs ++ ys) h)
 
@@ -27,8 +26,8 @@ forms_named g well start =
 forms_named g well (replaced before after chosen r a form is) =
     let named = forms_named g well form in
     All-append (IsNamed (length g)) before (chosen ++ after) (all_front (IsNamed (length g)) before (Rule r ∷ after) named)
-      (All-append (IsNamed (length g)) chosen after (named_alternative g r a chosen well is)
-        (All-tail (IsNamed (length g)) (Rule r) after (all_back (IsNamed (length g)) before (Rule r ∷ after) named)))
+    (All-append (IsNamed (length g)) chosen after (named_alternative g r a chosen well is)
+    (All-tail (IsNamed (length g)) (Rule r) after (all_back (IsNamed (length g)) before (Rule r ∷ after) named)))
 
 empty_more : {g : Grammar} (xs ys : List Sym) → CanBeEmpty g xs → CanBeEmpty g ys → CanBeEmpty g (xs ++ ys)
 empty_more xs ys (t1, d1) (t2, d2) = (_, Derives-append d1 d2)
@@ -57,12 +56,14 @@ begins_sound g nullable first t after (Token u ∷ rest) well empty_sound first_
 begins_sound g nullable first t after (Rule r ∷ rest) well empty_sound first_sound named e =
     let rest_named = All-tail (IsNamed (length g)) (Rule r) rest named in
     elim (or_cases (first r) (nullable r && begins nullable first t after rest) e) [
-      inl f ↦ inl (begins_before g (Rule r ∷ []) rest t well rest_named (first_sound r f))
-    | inr f ↦
-        let p = and_parts (nullable r) (begins nullable first t after rest) f in
-        elim (begins_sound g nullable first t after rest well empty_sound first_sound rest_named p.1) [
-          inl b ↦ inl (begins_past (Rule r ∷ []) rest t (empty_sound r p.0) b)
-        | inr b ↦ inr (empty_more (Rule r ∷ []) rest (empty_sound r p.0) b.0, b.1) ] ]
+      | inl f ↦ inl (begins_before g (Rule r ∷ []) rest t well rest_named (first_sound r f))
+      | inr f ↦
+          let p = and_parts (nullable r) (begins nullable first t after rest) f in
+          elim (begins_sound g nullable first t after rest well empty_sound first_sound rest_named p.1) [
+            | inl b ↦ inl (begins_past (Rule r ∷ []) rest t (empty_sound r p.0) b)
+            | inr b ↦ inr (empty_more (Rule r ∷ []) rest (empty_sound r p.0) b.0, b.1)
+          ]
+    ]
 
 -- a rule of which an alternative has marked rules alone can be empty
 pub empty_justified : (g : Grammar) (nullable : Marks) (r a : ℕ) (chosen : List Sym) → EmptySound g nullable → alternative_of g r a ≡ Some chosen →
@@ -75,16 +76,19 @@ pub first_justified : (g : Grammar) (nullable first : Marks) (t r a : ℕ) (chos
     alternative_of g r a ≡ Some chosen → begins nullable first t false chosen ≡ true → CanBegin g (Rule r ∷ []) t
 first_justified g nullable first t r a chosen well empty_sound first_sound is e =
     elim (begins_sound g nullable first t false chosen well empty_sound first_sound (named_alternative g r a chosen well is) e) [
-      inl (rest, tree, d) ↦ (rest ++ [], _, rule is d nothing)
-    | inr b ↦ absurd (let f : false ≡ true = b.1 in cc) ]
+      | inl (rest, tree, d) ↦ (rest ++ [], _, rule is d nothing)
+      | inr b ↦ absurd (let f : false ≡ true = b.1 in cc)
+    ]
 
 -- a rule that an alternative of a rule that is reached names is reached
 pub reach_justified : (g : Grammar) (r a s : ℕ) (before after : List Sym) → alternative_of g r a ≡ Some (before ++ Rule s ∷ after) → IsReached g r → IsReached g s
-reach_justified g r a s before after is (p, q, form) =
-    (p ++ before, after ++ q,
-      subst (λ (l : List Sym). IsForm g l)
-        (ap (λ (l : List Sym). p ++ l) (append_assoc before (Rule s ∷ after) q) ∙ sym (append_assoc p before (Rule s ∷ (after ++ q))))
-        (replaced p q (before ++ Rule s ∷ after) r a form is))
+reach_justified g r a s before after is (p, q, form) = (
+  p ++ before,
+  after ++ q,
+  subst (λ (l : List Sym). IsForm g l)
+      (ap (λ (l : List Sym). p ++ l) (append_assoc before (Rule s ∷ after) q) ∙ sym (append_assoc p before (Rule s ∷ (after ++ q))))
+      (replaced p q (before ++ Rule s ∷ after) r a form is),
+)
 
 -- and followed by what can begin after it
 pub follow_justified : (g : Grammar) (nullable first follow : Marks) (t r a s : ℕ) (before after : List Sym) → IsWellFormed g → EmptySound g nullable → FirstSound g first t → FollowSound g follow t →
@@ -92,24 +96,28 @@ pub follow_justified : (g : Grammar) (nullable first follow : Marks) (t r a s : 
 follow_justified g nullable first follow t r a s before after well empty_sound first_sound follow_sound is reached e =
     let named = All-tail (IsNamed (length g)) (Rule s) after (all_back (IsNamed (length g)) before (Rule s ∷ after) (named_alternative g r a (before ++ Rule s ∷ after) well is)) in
     elim (begins_sound g nullable first t (follow r) after well empty_sound first_sound named e) [
-      inl b ↦ go reached (λ q named_q. begins_before g after q t well named_q b)
-    | inr b ↦ past (follow_sound r b.1) b.0 ]
-    where
-      moved : (p q : List Sym) → IsForm g (p ++ Rule r ∷ q) → IsForm g ((p ++ before) ++ Rule s ∷ (after ++ q))
-      moved p q form =
+      | inl b ↦ go reached (λ q named_q. begins_before g after q t well named_q b)
+      | inr b ↦ past (follow_sound r b.1) b.0
+    ]
+  where
+    moved : (p q : List Sym) → IsForm g (p ++ Rule r ∷ q) → IsForm g ((p ++ before) ++ Rule s ∷ (after ++ q))
+    moved p q form =
         subst (λ (l : List Sym). IsForm g l)
-          (ap (λ (l : List Sym). p ++ l) (append_assoc before (Rule s ∷ after) q) ∙ sym (append_assoc p before (Rule s ∷ (after ++ q))))
-          (replaced p q (before ++ Rule s ∷ after) r a form is)
-      go : IsReached g r → ((q : List Sym) → All (IsNamed (length g)) q → CanBegin g (after ++ q) t) → Follows g s t
-      go (p, q, form) b =
+        (ap (λ (l : List Sym). p ++ l) (append_assoc before (Rule s ∷ after) q) ∙ sym (append_assoc p before (Rule s ∷ (after ++ q))))
+        (replaced p q (before ++ Rule s ∷ after) r a form is)
+
+    go : IsReached g r → ((q : List Sym) → All (IsNamed (length g)) q → CanBegin g (after ++ q) t) → Follows g s t
+    go (p, q, form) b =
         (p ++ before, after ++ q, moved p q form, b q (All-tail (IsNamed (length g)) (Rule r) q (all_back (IsNamed (length g)) p (Rule r ∷ q) (forms_named g well form))))
-      past : Follows g r t → CanBeEmpty g after → Follows g s t
-      past (p, q, form, b) empty = (p ++ before, after ++ q, moved p q form, begins_past after q t empty b)
+
+    past : Follows g r t → CanBeEmpty g after → Follows g s t
+    past (p, q, form, b) empty = (p ++ before, after ++ q, moved p q form, begins_past after q t empty b)
 
 -- a marked token is in the choice set
 pub choice_sound : (g : Grammar) (nullable first follow : Marks) (t r a : ℕ) (chosen : List Sym) → IsWellFormed g → EmptySound g nullable → FirstSound g first t → FollowSound g follow t →
     alternative_of g r a ≡ Some chosen → begins nullable first t (follow r) chosen ≡ true → IsChoice g r a t
 choice_sound g nullable first follow t r a chosen well empty_sound first_sound follow_sound is e =
     elim (begins_sound g nullable first t (follow r) chosen well empty_sound first_sound (named_alternative g r a chosen well is) e) [
-      inl b ↦ (chosen, is, inl b)
-    | inr b ↦ (chosen, is, inr (b.0, follow_sound r b.1)) ]
+      | inl b ↦ (chosen, is, inl b)
+      | inr b ↦ (chosen, is, inr (b.0, follow_sound r b.1))
+    ]

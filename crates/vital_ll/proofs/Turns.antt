@@ -1,12 +1,17 @@
 -- Turns that mark rules, one after another.
-use Rattle.std.proofs.Common.{◌≡◌, ℕ, zero, suc, ◌+◌, ◌<◌, ◌≤◌, ◌≢◌, Bool, true, false, ◌||◌, List, [], ◌∷◌, length, get_or, set, refl, sym, ap, ◌∙◌, subst, arith, inl, inr, ◌⊎◌}
-use Rattle.std.proofs.lemmas.List.{length-set, get_or-set_same, get_or-set_other}
-use Rattle.vital_ll.specs.Marks.{Marks, marked, unmarked, IsTurn, IsSaturated}
+use Rattle.std.proofs.Common.{◌≡◌, ℕ, zero, suc, ◌<◌, Bool, true, false, not, ◌||◌, List, [], ◌∷◌, length, get_or, set, refl, sym, ap, ◌∙◌, subst, arith, inl, inr, ◌⊎◌}
+use Rattle.std.proofs.lemmas.List.{length-set, set-get_or}
+use Rattle.vital_ll.specs.Marks.{marked, unmarked, IsTurn}
 
 -- nothing was marked
 pub turn_quiet : (Reason : ℕ → Type 0) (Settled : List Bool → Type 0) (marks : List Bool) → Settled marks → IsTurn Reason Settled marks marks false
 turn_quiet Reason Settled marks settled = record {
-  len = refl; sound = λ s. s; kept = λ r h. h; quiet = λ _. (refl, settled); fewer = λ (e : false ≡ true). absurd (cc) }
+  len = refl;
+  sound = λ s. s;
+  kept = λ r h. h;
+  quiet = λ _. (refl, settled);
+  fewer = λ (e : false ≡ true). absurd (cc);
+}
 
 unmarked-set : (marks : List Bool) (r : ℕ) → r < length marks → get_or marks r false ≡ false → unmarked (set marks r true) < unmarked marks
 unmarked-set [] r h e = absurd (omega arith)
@@ -38,7 +43,8 @@ turn_mark Reason Settled marks r inside e reason = record {
   sound = λ s q h. elim (mark_cases marks r q h) [ inl f ↦ s q f | inr f ↦ subst Reason (sym f) (reason s) ];
   kept = λ q h. mark_kept marks r q h;
   quiet = λ (x : true ≡ false). absurd (cc);
-  fewer = λ _. unmarked-set marks r inside e }
+  fewer = λ _. unmarked-set marks r inside e;
+}
 
 or_false : (a b : Bool) → (a || b) ≡ false → (a ≡ false) × (b ≡ false)
 or_false true b e = absurd (cc)
@@ -59,4 +65,17 @@ turn_next Reason First Second Both old mid new a b join x y = record {
   sound = λ s. y.sound (x.sound s);
   kept = λ r h. y.kept r (x.kept r h);
   quiet = λ e. let p = or_false a b e in let q = x.quiet p.0 in let s = y.quiet p.1 in (s.0 ∙ q.0, join old q.1 (subst Second q.0 s.1));
-  fewer = later_fewer a b old mid new x.fewer (λ e. (x.quiet e).0) y.fewer (λ e. (y.quiet e).0) }
+  fewer = later_fewer a b old mid new x.fewer (λ e. (x.quiet e).0) y.fewer (λ e. (y.quiet e).0);
+}
+
+-- a rule is marked, which may be nothing new
+pub turn_add : (Reason : ℕ → Type 0) (Settled : List Bool → Type 0) (old new : List Bool) (r : ℕ) (changed : Bool) → r < length old → new ≡ set old r true → changed ≡ not (get_or old r false) →
+    (((q : ℕ) → marked old q ≡ true → Reason q) → Reason r) → (get_or old r false ≡ true → Settled old) → IsTurn Reason Settled old new changed
+turn_add Reason Settled old new r changed inside new_is changed_is reason settled =
+    subst (λ (l : List Bool). IsTurn Reason Settled old l changed) (sym new_is) (subst (λ (b : Bool). IsTurn Reason Settled old (set old r true) b) (sym changed_is) (go (get_or old r false) refl))
+  where
+    go : (b : Bool) → get_or old r false ≡ b → IsTurn Reason Settled old (set old r true) (not b)
+    go true e =
+        let same : set old r true ≡ old = ap (λ (b : Bool). set old r b) (sym e) ∙ set-get_or old r false in
+        subst (λ (l : List Bool). IsTurn Reason Settled old l false) (sym same) (turn_quiet Reason Settled old (settled e))
+    go false e = turn_mark Reason Settled old r inside e reason

@@ -1,5 +1,5 @@
 -- Choice sets, and the grammars that the next token decides.
-use Rattle.std.specs.Prelude.{◌≡◌, ◌≢◌, ℕ, ◌<◌, ◌≤◌, List, [], ◌∷◌, ◌++◌, length, Some, All, Contains, ◌⊎◌}
+use Rattle.std.specs.Prelude.{◌≡◌, ◌≢◌, ℕ, ◌<◌, ◌≤◌, List, [], ◌∷◌, ◌++◌, length, Some, All, ◌⊎◌}
 use Rattle.vital_ll.specs.declared.grammar.Sym.{Sym}
 use Rattle.vital_ll.specs.declared.grammar.Sym.TheVariants.{Token, Rule}
 use Rattle.vital_ll.specs.declared.derivation.Step.{Step}
@@ -19,8 +19,8 @@ CanBeEmpty g symbols = (tree : List Step) × Derives g symbols [] tree
 pub data IsForm (g : Grammar) : List Sym → Type 0 where
   start : IsForm g (Rule 0 ∷ Token end_mark ∷ [])
   replaced : (before after chosen : List Sym) (r a : ℕ) →
-    IsForm g (before ++ Rule r ∷ after) → alternative_of g r a ≡ Some chosen →
-    IsForm g (before ++ (chosen ++ after))
+      IsForm g (before ++ Rule r ∷ after) → alternative_of g r a ≡ Some chosen →
+      IsForm g (before ++ (chosen ++ after))
 
 -- the token, or the end mark, follows the rule in some sentence
 abbrev pub Follows : Grammar → ℕ → ℕ → Type 0

@@ -1,5 +1,5 @@
 -- Grammars, and what they derive.
-use Rattle.std.specs.Prelude.{◌≡◌, ℕ, ◌<◌, ◌≤◌, List, [], ◌∷◌, ◌++◌, length, Option, Some, slice_get, All, Contains}
+use Rattle.std.specs.Prelude.{◌≡◌, ℕ, List, [], ◌∷◌, ◌++◌, Option, Some, slice_get}
 use Rattle.std.specs.Option.{option_and_then}
 use Rattle.vital_ll.specs.declared.grammar.Sym.{Sym}
 use Rattle.vital_ll.specs.declared.grammar.Sym.TheVariants.{Token, Rule}
@@ -18,7 +18,7 @@ alternative_of g r a = option_and_then (λ alternatives. slice_get alternatives 
 pub data Derives (g : Grammar) : List Sym → List ℕ → List Step → Type 0 where
   nothing : Derives g [] [] []
   token : {t : ℕ} {rest : List Sym} {tokens : List ℕ} {tree : List Step} →
-    Derives g rest tokens tree → Derives g (Token t ∷ rest) (t ∷ tokens) tree
+      Derives g rest tokens tree → Derives g (Token t ∷ rest) (t ∷ tokens) tree
   rule : {r a : ℕ} {chosen rest : List Sym} {us vs : List ℕ} {below after : List Step} →
-    alternative_of g r a ≡ Some chosen → Derives g chosen us below → Derives g rest vs after →
-    Derives g (Rule r ∷ rest) (us ++ vs) (record { rule = r; alternative = a } ∷ (below ++ after))
+      alternative_of g r a ≡ Some chosen → Derives g chosen us below → Derives g rest vs after →
+      Derives g (Rule r ∷ rest) (us ++ vs) (record { rule = r; alternative = a } ∷ (below ++ after))

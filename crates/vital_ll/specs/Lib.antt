@@ -5,3 +5,8 @@ pub mod Table
 pub mod Refusal
 pub mod Marks
 pub mod Listing
+pub mod Passes
+pub mod Conflict
+pub mod Masks
+pub mod Ranks
+pub mod Example

@@ -1,5 +1,5 @@
 -- What a refusal says.
-use Rattle.std.specs.Prelude.{◌≡◌, ℕ, List}
+use Rattle.std.specs.Prelude.{ℕ, List}
 use Rattle.vital_ll.specs.declared.derivation.Step.{Step}
 use Rattle.vital_ll.specs.declared.reading.ParseError.{ParseError}
 use Rattle.vital_ll.specs.declared.reading.ParseError.TheVariants.{Refused, NoMemory}

@@ -24,7 +24,13 @@ pub(crate) fn can_be_empty(symbols: &[Sym], nullable: &[bool]) -> bool
 
 /// Whether the symbols can begin with the token: with it, or with a rule that does, past rules that can be
 /// empty. Past all of them `after` says so.
-pub(crate) fn can_begin(symbols: &[Sym], token: u32, after: bool, nullable: &[bool], first: &[bool]) -> bool
+pub(crate) fn can_begin(
+    symbols: &[Sym],
+    token: u32,
+    after: bool,
+    nullable: &[bool],
+    first: &[bool],
+) -> bool
     requires named { All (IsNamed (length nullable.now)) symbols.now }
     requires rules { length first.now ≡ length nullable.now }
     ensures { result ≡ begins (marked nullable.now) (marked first.now) token after symbols.now }

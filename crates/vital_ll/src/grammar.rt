@@ -1,6 +1,7 @@
-ghost use Rattle.std.specs.Prelude.{◌≡◌, ◌<◌, [], Some, IsSome, length, slice_get, slice_index_or};
+ghost use Rattle.std.specs.Prelude.{◌≡◌, ◌<◌, [], Some, IsSome, length, slice_get, slice_index_or, IfOk};
 ghost use Rattle.vital_ll.specs.Grammar.{alternative_of};
 
+use std::alloc::{AllocError, Global};
 use std::marker::Model;
 
 /// A symbol of an alternative: a token of this kind, or what the rule of this number derives.
@@ -72,6 +73,15 @@ impl Alternative {
 }
 
 impl Alternative {
+    /// The same alternative once more.
+    fn copied(&self, alloc: Global) -> Result<Alternative, AllocError>
+        ensures { IfOk result (λ copy. copy ≡ self.now) }
+    {
+        Ok(Alternative {
+            symbols: Vec::from_slice(alloc, &self.symbols)?,
+        })
+    }
+
     fn symbols(&self) -> &[Sym]
         ensures { result.now ≡ self.now }
     {
@@ -96,6 +106,17 @@ impl Rule {
 }
 
 impl Rule {
+    /// The same rule once more.
+    fn copied(&self, alloc: Global) -> Result<Rule, AllocError>
+        ensures { IfOk result (λ copy. copy ≡ self.now) }
+    {
+        let mut alternatives = Vec::with_capacity(alloc, self.alternatives.len())?;
+        for alternative in &self.alternatives {
+            alternatives.push(alternative.copied(alloc)?)?;
+        }
+        Ok(Rule { alternatives })
+    }
+
     fn len(&self) -> usize
         ensures { result ≡ length self.now }
     {
@@ -123,6 +144,17 @@ impl RuleList {
         ensures { result.items ≡ self }
     {
         self.rules
+    }
+
+    /// The same grammar once more.
+    pub(crate) fn copied(&self, alloc: Global) -> Result<RuleList, AllocError>
+        ensures { IfOk result (λ copy. copy ≡ self.now) }
+    {
+        let mut rules = Vec::with_capacity(alloc, self.rules.len())?;
+        for rule in &self.rules {
+            rules.push(rule.copied(alloc)?)?;
+        }
+        Ok(RuleList { rules })
     }
 
     /// How many rules there are.

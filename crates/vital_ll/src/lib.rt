@@ -3,14 +3,24 @@
 #![tactic(auto)]
 
 mod beginnings;
+mod column;
 mod derivation;
 mod grammar;
+mod laws;
 mod listing;
 mod marks;
+mod passes;
 mod prediction;
 mod reading;
+mod sets;
+mod token;
+mod width;
 
 pub use derivation::{Step, Tree};
 pub use grammar::{Alternative, Rule, RuleList, Sym};
-pub use prediction::Rules;
+pub use laws::{masks_decide, masks_hold, ranks_derive};
+pub use prediction::{Rules, RulesError};
 pub use reading::{ParseError, parse};
+
+#[cfg(test)]
+mod tests;

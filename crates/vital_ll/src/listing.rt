@@ -30,7 +30,11 @@ pub(crate) fn steps(alloc: Global, rules: &RuleList) -> Result<Vec<Step>, AllocE
 {
     let mut steps = Vec::new(alloc);
     for rule in 0..rules.len() {
-        push_steps(&mut steps, rule as u16, rules.alternative_count(rule) as u16)?;
+        push_steps(
+            &mut steps,
+            rule as u16,
+            rules.alternative_count(rule) as u16,
+        )?;
     }
     Ok(steps)
 }
@@ -46,13 +50,21 @@ fn push_places(places: &mut Vec<Place>, step: Step, count: usize) -> Result<(), 
 }
 
 /// Each symbol of each of these alternatives.
-pub(crate) fn places(alloc: Global, rules: &RuleList, steps: &[Step]) -> Result<Vec<Place>, AllocError>
+pub(crate) fn places(
+    alloc: Global,
+    rules: &RuleList,
+    steps: &[Step],
+) -> Result<Vec<Place>, AllocError>
     requires { All (IsStepOf rules.now) steps.now }
     ensures { IfOk result (λ places. ListsPlaces rules.now steps.now places.items) }
 {
     let mut places = Vec::new(alloc);
     for step in steps {
-        push_places(&mut places, *step, rules.symbols(step.rule, step.alternative).len())?;
+        push_places(
+            &mut places,
+            *step,
+            rules.symbols(step.rule, step.alternative).len(),
+        )?;
     }
     Ok(places)
 }

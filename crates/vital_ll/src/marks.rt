@@ -8,6 +8,7 @@ pub(crate) trait Pass {
 
     /// How many rules there are, and how many items.
     ghost rules: { Self → ℕ };
+
     ghost items: { Self → ℕ };
 
     /// What the mark of a rule says.
@@ -42,10 +43,20 @@ fn sweep<P: Pass>(pass: &P, marks: &mut [bool]) -> bool
 }
 
 /// Marks rules until there is nothing more to mark.
-pub(crate) fn saturate<P: Pass>(pass: &P, marks: &mut [bool])
+fn saturate<P: Pass>(pass: &P, marks: &mut [bool])
     requires valid { P.valid pass.now }
     requires rules { length marks.old ≡ P.rules pass.now }
     ensures { IsSaturated (P.reason pass.now) (λ m. (k : ℕ) → k < P.items pass.now → P.settled pass.now m k) marks.old marks.new }
 {
     while sweep(pass, marks) {}
+}
+
+/// These marks, and all that the pass adds to them.
+pub(crate) fn saturated<P: Pass>(pass: &P, mut marks: Vec<bool>) -> Vec<bool>
+    requires valid { P.valid pass.now }
+    requires rules { length marks.items ≡ P.rules pass.now }
+    ensures { IsSaturated (P.reason pass.now) (λ m. (k : ℕ) → k < P.items pass.now → P.settled pass.now m k) marks.items result.items }
+{
+    saturate(pass, &mut marks);
+    marks
 }

@@ -83,6 +83,10 @@ fn is_kind(next: Option<u16>, kind: u16) -> bool
 
 /// The derivation of the tokens of these kinds, of which there is one where there is any. Else the first
 /// token that no sentence goes on with.
+///
+/// The stack holds the symbols that are left, the next one topmost. The next token decides for the one
+/// alternative of a rule by one look-up, and each step is written once. Each turn takes a token or writes
+/// a step, so the call ends: a list of steps without an end would end in want of memory.
 pub fn parse(alloc: Global, rules: &Rules, kinds: &[u16]) -> Result<Tree, ParseError>
     requires { length kinds.now < 2 ^ 32 }
     ensures tree { IfOk result (IsTreeOf rules.now kinds.now) }
@@ -95,16 +99,19 @@ pub fn parse(alloc: Global, rules: &Rules, kinds: &[u16]) -> Result<Tree, ParseE
     stack.push(rules.start())?;
     while let Some(symbol) = stack.pop() {
         let next = token_at(kinds, taken);
+        let refused = ParseError::Refused {
+            token: taken as u32,
+        };
         match symbol {
             Sym::Token(kind) => {
                 if !is_kind(next, kind) {
-                    return Err(ParseError::Refused { token: taken as u32 });
+                    return Err(refused);
                 }
                 taken += 1;
             }
             Sym::Rule(rule) => {
                 let Some(alternative) = rules.choice(rule, next) else {
-                    return Err(ParseError::Refused { token: taken as u32 });
+                    return Err(refused);
                 };
                 steps.push(Step { rule, alternative })?;
                 push_reversed(&mut stack, rules.symbols(rule, alternative))?;
@@ -112,7 +119,8 @@ pub fn parse(alloc: Global, rules: &Rules, kinds: &[u16]) -> Result<Tree, ParseE
         }
     }
     if taken < kinds.len() {
-        return Err(ParseError::Refused { token: taken as u32 });
+        let token = taken as u32;
+        return Err(ParseError::Refused { token });
     }
     Ok(Tree::from_vec(steps))
 }

@@ -1,4 +1,4 @@
-use Rattle.std.proofs.Common.{◌≡◌, ℕ, ◌<◌}
+use Rattle.std.proofs.Common.{ℕ, ◌<◌}
 use Rattle.vital_ll.specs.Marks.{IsTurn}
 use Rattle.vital_ll.proofs.marks.sweep.Given as goal
 

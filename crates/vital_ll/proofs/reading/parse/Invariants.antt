@@ -1,6 +1,4 @@
-use Rattle.std.proofs.Common.{◌≡◌, ℕ, ◌+◌, ◌-◌, ◌^◌, ◌≤◌, List, [], ◌∷◌, ◌++◌, length, reverse, take, get_or, vec_len}
-use Rattle.vital_ll.specs.declared.grammar.Sym.TheVariants.{Token}
-use Rattle.vital_ll.specs.Sentence.{end_mark}
+use Rattle.std.proofs.Common.{◌+◌, ◌-◌, ◌^◌, length, vec_len}
 use Rattle.vital_ll.proofs.Parsing.{IsParsing}
 use Rattle.vital_ll.proofs.reading.parse.Given as goal
 

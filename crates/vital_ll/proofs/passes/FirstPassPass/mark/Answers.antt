@@ -1,0 +1,13 @@
+use Rattle.std.proofs.Common.{get_or, set, ap, sym, ◌∙◌, true, false, not}
+use Rattle.std.proofs.lemmas.Option.{slice_get-get_or}
+use Rattle.vital_ll.specs.Listing.{step}
+use Rattle.vital_ll.specs.Marks.{marked}
+use Rattle.vital_ll.proofs.Passing.{first_turn}
+use Rattle.vital_ll.proofs.passes.FirstPassPass.mark.Goals as goal
+
+pub returns : goal.returns
+returns c =
+    let s = c.args.self.now in
+    first_turn s.rules.now (marked s.nullable.now) s.token s.steps.now c.args.item (get_or s.steps.now c.args.item (step 0 0)) c.symbols-symbols.result.now c.args.marks.now _ _ c.requires.valid.0 c.requires.valid.3 c.requires.rules
+    (slice_get-get_or s.steps.now c.args.item (step 0 0) c.requires.item) c.symbols-symbols.ensures (sym c.can_begin.ensures ∙ c.if-not-can_begin.false)
+    (c.add.ensures.marks ∙ ap (λ x. set c.args.marks.now x true) c.from.ensures) (c.add.ensures.new ∙ ap (λ x. not (get_or c.args.marks.now x false)) c.from.ensures)

@@ -1,0 +1,10 @@
+-- What a refused grammar says.
+use Rattle.vital_ll.specs.declared.prediction.RulesError.{RulesError}
+use Rattle.vital_ll.specs.declared.prediction.RulesError.TheVariants.{NotPredictive, NoMemory}
+use Rattle.vital_ll.specs.Grammar.{Grammar}
+use Rattle.vital_ll.specs.Choice.{IsFirstConflict}
+
+-- the rule is the first whose choice sets meet; want of memory says nothing
+abbrev pub IsConflict : Grammar → RulesError → Type 0
+IsConflict g (NotPredictive r) = IsFirstConflict g r
+IsConflict g NoMemory = Unit {0}

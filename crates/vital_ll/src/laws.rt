@@ -1,0 +1,25 @@
+ghost use Rattle.std.specs.Prelude.{◌≡◌, ℕ, List, Some, IsTrue};
+ghost use Rattle.std.specs.Int.{bit_at};
+ghost use Rattle.vital_ll.specs.declared.grammar.Sym.{Sym};
+ghost use Rattle.vital_ll.specs.Grammar.{Grammar, alternative_of};
+ghost use Rattle.vital_ll.specs.Choice.{IsChoice, IsPredictive, IsWellFormed};
+ghost use Rattle.vital_ll.specs.Masks.{MaskTable, are_closed, decides, choice_mask, bit_of};
+ghost use Rattle.vital_ll.specs.Ranks.{are_ranked};
+
+/// Masks that are closed under the rules of a grammar hold every choice set: a law, called for its clause.
+pub fn masks_hold()
+    ensures { (g : Grammar) (table : MaskTable) (r a t : ℕ) (chosen : List Sym) → IsTrue (are_closed g table)
+        → alternative_of g r a ≡ Some chosen → IsChoice g r a t → bit_at (choice_mask table r chosen) (bit_of t) ≡ 1 }
+{}
+
+/// Where the closed masks of the alternatives of each rule do not meet, the grammar is predictive, and
+/// `Rules::make` does not refuse it: a law, called for its clause.
+pub fn masks_decide()
+    ensures { (g : Grammar) (table : MaskTable) → IsTrue (are_closed g table) → IsTrue (decides g table) → IsPredictive g }
+{}
+
+/// Where each rule has an alternative that names rules of lower rank alone, each rule derives something, and
+/// `Rules::make` may be called: a law, called for its clause.
+pub fn ranks_derive()
+    ensures { (g : Grammar) (ranks : List ℕ) → IsTrue (are_ranked g ranks) → IsWellFormed g }
+{}
