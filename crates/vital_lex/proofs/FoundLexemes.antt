@@ -20,9 +20,9 @@ moves test text at end none longest =
     ⊎_elim
     (λ forward. forward)
     (λ back.
-        let from : at ≤ end = longest.forward in
-        let here : end ≡ at = omega arith in
-        absurd (false≢true (sym (ap (λ e. test (slice_range text at e)) here ∙ ap test (range-none text at) ∙ none) ∙ longest.passes)))
+    let from : at ≤ end = longest.forward in
+    let here : end ≡ at = omega arith in
+    absurd (false≢true (sym (ap (λ e. test (slice_range text at e)) here ∙ ap test (range-none text at) ∙ none) ∙ longest.passes)))
     (cases_lt at end)
 
 module _ (before : Option Kind) (text : List ℕ) (at : ℕ) (inside : at < length text) where
@@ -156,17 +156,17 @@ module _ (before : Option Kind) (text : List ℕ) (at : ℕ) (inside : at < leng
         (⊎_elim
         (λ short. character_short end forward short within)
         (λ three_or_more.
-            ⊎_elim
-            (λ long. character_long end long within)
-            (λ three.
-                let is_three : end ≡ at + 3 = omega arith in
-                let room : at + 2 < length text = omega arith in
-                ap (λ e. is_character_literal (39 ∷ slice_range text (at + 1) e)) is_three ∙ character_three room
-                ∙ ⊎_elim
-                  (λ graphic. and_right (is_graphic (get_or text (at + 1) 0)) _ (ne_eqb _ 39 (other room graphic)))
-                  (λ plain. and_left (is_graphic (get_or text (at + 1) 0)) _ plain)
-                  (cases_Bool (is_graphic (get_or text (at + 1) 0))))
-            (cases_lt (at + 3) end))
+        ⊎_elim
+        (λ long. character_long end long within)
+        (λ three.
+        let is_three : end ≡ at + 3 = omega arith in
+        let room : at + 2 < length text = omega arith in
+        ap (λ e. is_character_literal (39 ∷ slice_range text (at + 1) e)) is_three ∙ character_three room
+        ∙ ⊎_elim
+        (λ graphic. and_right (is_graphic (get_or text (at + 1) 0)) _ (ne_eqb _ 39 (other room graphic)))
+        (λ plain. and_left (is_graphic (get_or text (at + 1) 0)) _ plain)
+        (cases_Bool (is_graphic (get_or text (at + 1) 0))))
+        (cases_lt (at + 3) end))
         (cases_lt end (at + 3))))
 
   module _ (none : begins_word_or_literal (get_or text at 0) ≡ false) where
@@ -200,7 +200,7 @@ module _ (before : Option Kind) (text : List ℕ) (at : ℕ) (inside : at < leng
       no_delimiter not_single =
           none_from (λ w. kind_in delimiters (get_or text at 0 ∷ w)) (λ w. at_other before w _ none)
           (λ end forward within.
-              ⊎_elim
-              (λ more. delimiter_more end more within)
-              (λ one. let is_one : end ≡ at + 1 = omega arith in ap (λ e. kind_in delimiters (get_or text at 0 ∷ slice_range text (at + 1) e)) is_one ∙ ap (λ w. kind_in delimiters (get_or text at 0 ∷ w)) (range-none text (at + 1)) ∙ not_single)
-              (cases_lt (at + 1) end))
+          ⊎_elim
+          (λ more. delimiter_more end more within)
+          (λ one. let is_one : end ≡ at + 1 = omega arith in ap (λ e. kind_in delimiters (get_or text at 0 ∷ slice_range text (at + 1) e)) is_one ∙ ap (λ w. kind_in delimiters (get_or text at 0 ∷ w)) (range-none text (at + 1)) ∙ not_single)
+          (cases_lt (at + 1) end))

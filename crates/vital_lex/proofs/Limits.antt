@@ -2,7 +2,7 @@
 use Rattle.std.proofs.Common.{◌≡◌, ℕ, ◌+◌, ◌<◌, ◌≤◌, List, [], ◌∷◌, ◌++◌, length, take, refl, ap, sym, subst, ◌∙◌, ⊎_elim, arith, Option, Some, None}
 use Rattle.std.proofs.lemmas.Bool.{cases_lt}
 use Rattle.std.proofs.lemmas.List.{take_all, take-append-le, length_push}
-use Rattle.vital_lex.specs.Nesting.{nesting, nesting_from, nesting_after, nesting_at_word, IsShallow}
+use Rattle.vital_lex.specs.Nesting.{nesting, nesting_from, nesting_after, nesting_at_word}
 use Rattle.vital_lex.specs.Outcome.{IsWithin}
 use Rattle.vital_lex.specs.Pieces.{Lexeme, last_kind}
 use Rattle.vital_lex.specs.declared.kinds.Kind.{Kind}
@@ -78,10 +78,13 @@ module _ (room : ℕ) where
   pub within_front : (ls : List Lexeme) (l : Lexeme) → IsWithin room (ls ++ l ∷ []) → IsWithin room ls × (length ls < room) × (nesting (ls ++ l ∷ []) ≤ 64)
   within_front ls l within =
       let longer = length_push ls l in
-      let few = within.few in
-      (record {
-        few = omega arith;
-        shallow = λ n front.
-            let same : nesting (take n (ls ++ l ∷ [])) ≡ nesting (take n ls) = ap nesting (take-append-le n ls (l ∷ []) front) in
-            omega (arith, within.shallow n (omega arith));
-      }, omega arith, within_nesting (ls ++ l ∷ []) within)
+      let few = within.few in (
+        record {
+          few = omega arith;
+          shallow = λ n front.
+              let same : nesting (take n (ls ++ l ∷ [])) ≡ nesting (take n ls) = ap nesting (take-append-le n ls (l ∷ []) front) in
+              omega (arith, within.shallow n (omega arith));
+        },
+        omega arith,
+        within_nesting (ls ++ l ∷ []) within,
+      )

@@ -1,5 +1,5 @@
 -- The longest number at an offset.
-use Rattle.std.proofs.Common.{◌≡◌, ℕ, ◌+◌, ◌<◌, ◌≤◌, Bool, true, false, ◌&&◌, cond, eqb, List, [], ◌∷◌, ◌++◌, length, get_or, refl, ap, sym, ◌∙◌, ⊎_elim, arith, append-nil}
+use Rattle.std.proofs.Common.{◌≡◌, ℕ, ◌+◌, ◌<◌, ◌≤◌, true, false, ◌&&◌, eqb, List, [], ◌∷◌, ◌++◌, length, get_or, refl, ap, sym, ◌∙◌, ⊎_elim, arith}
 use Rattle.std.specs.Prelude.{slice_range}
 use Rattle.std.proofs.lemmas.Bool.{and_parts, and_from, and_left, and_right, ne_eqb, eq-eqb, cases_lt, cases_eq, false≢true, cond-true, cond-false}
 use Rattle.vital_lex.specs.Bytes.{is_digit}
@@ -46,21 +46,21 @@ module _ (text : List ℕ) (at point : ℕ) (whole : IsLongest is_integer text a
         let r = slice_range text (point + 1) more in
         and_right (begins is_digit (slice_range text at more)) _ (rest more (omega arith) ∙ ap ends_number head
         ∙ ⊎_elim
-          (λ dot. cond-true (eqb x 46) (is_integer r) (continues is_digit (x ∷ r) && ends_number r) (eq-eqb x 46 dot) ∙ and_left (begins is_digit r) _
-              (⊎_elim
-              (λ further. ap (begins is_digit) (range-head text (point + 1) more further within) ∙ no_fraction dot (omega arith))
-              (λ none. let same : more ≡ point + 1 = omega arith in ap (begins is_digit) (ap (λ n. slice_range text (point + 1) n) same ∙ range-none text (point + 1)))
-              (cases_lt (point + 1) more)))
-          (λ other. cond-false (eqb x 46) (is_integer r) (continues is_digit (x ∷ r) && ends_number r) (ne_eqb x 46 other) ∙ and_left (continues is_digit (x ∷ r)) _ (sym (ap (continues is_digit) head) ∙ stops more (omega arith) within))
-          (cases_eq x 46));
+        (λ dot. cond-true (eqb x 46) (is_integer r) (continues is_digit (x ∷ r) && ends_number r) (eq-eqb x 46 dot) ∙ and_left (begins is_digit r) _
+        (⊎_elim
+        (λ further. ap (begins is_digit) (range-head text (point + 1) more further within) ∙ no_fraction dot (omega arith))
+        (λ none. let same : more ≡ point + 1 = omega arith in ap (begins is_digit) (ap (λ n. slice_range text (point + 1) n) same ∙ range-none text (point + 1)))
+        (cases_lt (point + 1) more)))
+        (λ other. cond-false (eqb x 46) (is_integer r) (continues is_digit (x ∷ r) && ends_number r) (ne_eqb x 46 other) ∙ and_left (continues is_digit (x ∷ r)) _ (sym (ap (continues is_digit) head) ∙ stops more (omega arith) within))
+        (cases_eq x 46));
   }
 
   -- with a point and an integer after it
   pub number_with_fraction : (end : ℕ) → point < length text → get_or text point 0 ≡ 46 → IsLongest is_integer text (point + 1) end → IsLongest is_number text at end
   number_with_fraction end inside dot fraction =
       let after : (more : ℕ) → point < more → more ≤ length text → ends_number (slice_range text at more) ≡ is_integer (slice_range text (point + 1) more) = λ more above within.
-          rest more (omega arith) ∙ ap ends_number (range-head text point more above within)
-          ∙ cond-true (eqb (get_or text point 0) 46) (is_integer (slice_range text (point + 1) more)) (continues is_digit (get_or text point 0 ∷ slice_range text (point + 1) more) && ends_number (slice_range text (point + 1) more)) (eq-eqb _ 46 dot) in
+      rest more (omega arith) ∙ ap ends_number (range-head text point more above within)
+      ∙ cond-true (eqb (get_or text point 0) 46) (is_integer (slice_range text (point + 1) more)) (continues is_digit (get_or text point 0 ∷ slice_range text (point + 1) more) && ends_number (slice_range text (point + 1) more)) (eq-eqb _ 46 dot) in
       let from : at ≤ point = whole.forward in
       let to : point + 1 ≤ end = fraction.forward in
       record {

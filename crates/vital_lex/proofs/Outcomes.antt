@@ -1,5 +1,5 @@
 -- A text has exactly one outcome.
-use Rattle.std.proofs.Common.{◌≡◌, ℕ, zero, suc, ◌+◌, ◌-◌, ◌<◌, ◌≤◌, List, [], ◌∷◌, ◌++◌, length, map, refl, ap, sym, subst, ◌∙◌, ◌⊎◌, inl, inr, ⊎_elim, arith}
+use Rattle.std.proofs.Common.{◌≡◌, ℕ, zero, suc, ◌+◌, ◌<◌, ◌≤◌, List, [], ◌∷◌, ◌++◌, length, map, refl, ap, sym, subst, ◌∙◌, ⊎_elim, arith}
 use Rattle.std.specs.Prelude.{Result, Ok, Err}
 use Rattle.std.proofs.lemmas.Bool.{cases_lt}
 use Rattle.vital_lex.specs.Forms.{is_separator}
@@ -122,19 +122,19 @@ module _ (text : List ℕ) (room : ℕ) where
   at_step at ls within later (next l starts n) =
       ⊎_elim
       (λ room_left.
-          ⊎_elim
-          (λ deep.
-              let one_more = nesting_after_one (last_kind ls) (nesting ls) l.kind in
-              let is_65 : nesting (ls ++ l ∷ []) ≡ 65 = omega (arith, nesting-push ls l, within_nesting room ls within) in
-              (Err (fault.TooDeep at), sinks l starts n room_left is_65 refl, λ p h. after_deep at ls l starts n room_left is_65 h))
-          (λ shallow.
-              let forward = next_moves text ls l n in
-              let rest = later l.end (ls ++ l ∷ []) (omega (arith, forward.0)) forward.1 (within_push room ls l within room_left shallow) in
-              (rest.0, goes_on l starts n room_left shallow rest.1, λ p h. rest.2 p (after_lexeme at ls l starts n room_left shallow h)))
-          (cases_lt 64 (nesting (ls ++ l ∷ []))))
+      ⊎_elim
+      (λ deep.
+      let one_more = nesting_after_one (last_kind ls) (nesting ls) l.kind in
+      let is_65 : nesting (ls ++ l ∷ []) ≡ 65 = omega (arith, nesting-push ls l, within_nesting room ls within) in
+      (Err (fault.TooDeep at), sinks l starts n room_left is_65 refl, λ p h. after_deep at ls l starts n room_left is_65 h))
+      (λ shallow.
+      let forward = next_moves text ls l n in
+      let rest = later l.end (ls ++ l ∷ []) (omega (arith, forward.0)) forward.1 (within_push room ls l within room_left shallow) in
+      (rest.0, goes_on l starts n room_left shallow rest.1, λ p h. rest.2 p (after_lexeme at ls l starts n room_left shallow h)))
+      (cases_lt 64 (nesting (ls ++ l ∷ []))))
       (λ full.
-          let is_full : length ls ≡ room = omega (arith, within.few) in
-          (Err (fault.TooManyTokens at), fills l starts n is_full refl, λ p h. after_full at ls l starts n is_full h))
+      let is_full : length ls ≡ room = omega (arith, within.few) in
+      (Err (fault.TooManyTokens at), fills l starts n is_full refl, λ p h. after_full at ls l starts n is_full h))
       (cases_lt (length ls) room)
 
   -- exactly one thing comes of the rest, whatever has been read

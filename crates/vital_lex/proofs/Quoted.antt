@@ -1,7 +1,7 @@
 -- What stands between two marks, and the marks that may close it.
-use Rattle.std.proofs.Common.{◌≡◌, ℕ, ◌+◌, ◌<◌, ◌≤◌, Bool, true, false, ◌&&◌, cond, eqb, List, [], ◌∷◌, ◌++◌, length, get_or, refl, ap, sym, ◌∙◌, ⊎_elim, arith, append_assoc, append-nil, subst}
+use Rattle.std.proofs.Common.{◌≡◌, ℕ, ◌+◌, ◌<◌, ◌≤◌, true, false, ◌&&◌, eqb, List, [], ◌∷◌, ◌++◌, length, get_or, refl, ap, sym, ◌∙◌, ⊎_elim, arith, append_assoc, append-nil}
 use Rattle.std.specs.Prelude.{slice_range, Option, Some, None, MatchOption}
-use Rattle.std.proofs.lemmas.Bool.{and_left, ne_eqb, eq-eqb, cases_lt, cases_eq, cond-true, cond-false}
+use Rattle.std.proofs.lemmas.Bool.{and_left, ne_eqb, eq-eqb, cases_lt, cond-true, cond-false}
 use Rattle.vital_lex.specs.Bytes.{is_graphic}
 use Rattle.vital_lex.specs.Forms.{closes}
 use Rattle.vital_lex.specs.Pieces.{IsLongest, NoneFits}
@@ -74,9 +74,9 @@ module _ (mark : ℕ) (text : List ℕ) (at : ℕ) where
     closed_graphic closed inside other graphic before =
         let here : closes mark (slice_range text at (end + 1)) ≡ false = beyond (end + 1) (omega arith) ∙ ap (closes mark) (range-one text end inside) ∙ closes-graphic mark _ [] other graphic in
         let at_last : (more : ℕ) → end < more → more ≤ end + 1 → closes mark (slice_range text at more) ≡ false = λ more above within.
-            let last : more ≡ end + 1 = omega arith in ap (λ n. closes mark (slice_range text at n)) last ∙ here in
+        let last : more ≡ end + 1 = omega arith in ap (λ n. closes mark (slice_range text at n)) last ∙ here in
         elim closed as (λ o. LastClosed mark text at end o → LastClosed mark text at (end + 1) o) [
-          None ↦ λ b more above within. ⊎_elim (λ past. at_last more past within) (λ up_to. b more above up_to) (cases_lt end more)
+          | None ↦ λ b more above within. ⊎_elim (λ past. at_last more past within) (λ up_to. b more above up_to) (cases_lt end more)
           | Some k ↦ λ b. record {
             forward = b.forward;
             within = omega (arith, b.within);
@@ -112,7 +112,7 @@ module _ (mark : ℕ) (text : List ℕ) (at : ℕ) where
     all_closed : (closed : Option ℕ) → end ≤ length text → LastClosed mark text at end closed → ((more : ℕ) → end < more → more ≤ length text → closes mark (slice_range text at more) ≡ false) → MatchOption closed (NoneFits (closes mark) text at) (IsLongest (closes mark) text at)
     all_closed closed inside before none =
         elim closed as (λ o. LastClosed mark text at end o → MatchOption o (NoneFits (closes mark) text at) (IsLongest (closes mark) text at)) [
-          None ↦ λ b more above within. ⊎_elim (λ past. none more past within) (λ up_to. b more above up_to) (cases_lt end more)
+          | None ↦ λ b more above within. ⊎_elim (λ past. none more past within) (λ up_to. b more above up_to) (cases_lt end more)
           | Some k ↦ λ b. record {
             forward = b.forward;
             within = omega (arith, b.within);

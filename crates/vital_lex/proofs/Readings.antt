@@ -1,19 +1,18 @@
 -- A lexer's next piece.
-use Rattle.std.proofs.Common.{◌≡◌, ℕ, ◌+◌, ◌<◌, ◌≤◌, List, [], ◌∷◌, ◌++◌, length, map, refl, ap, sym, subst, ◌∙◌, arith, Option, Some, None, Global, Vec}
+use Rattle.std.proofs.Common.{◌≡◌, ℕ, ◌<◌, ◌≤◌, [], ◌∷◌, ◌++◌, length, refl, ap, sym, subst, ◌∙◌, arith, Option, Some, Global, Vec}
 use Rattle.std.specs.Vec.{vec_len}
 use Rattle.std.proofs.lemmas.List.{length-map, map_push}
 use Rattle.vital_lex.specs.Forms.{is_separator}
-use Rattle.vital_lex.specs.Kinds.{number}
 use Rattle.vital_lex.specs.Nesting.{nesting, nesting_after}
-use Rattle.vital_lex.specs.Outcome.{IsRefused, Reaches, why_at}
-use Rattle.vital_lex.specs.Pieces.{IsLongest, NoneFits, IsLexeme, is_lexeme, Lexeme, IsNext, Row, empty, separator, lexeme, token_of, last_kind}
-use Rattle.vital_lex.specs.Reading.{HasRead, IsReading}
+use Rattle.vital_lex.specs.Outcome.{IsRefused, why_at}
+use Rattle.vital_lex.specs.Pieces.{IsLongest, NoneFits, IsLexeme, is_lexeme, Lexeme, IsNext, separator, lexeme, token_of, last_kind}
+use Rattle.vital_lex.specs.Reading.{IsReading}
 use Rattle.vital_lex.specs.declared.faults.TextFault.TheVariants as fault
 use Rattle.vital_lex.specs.declared.kinds.Kind.{Kind}
 use Rattle.vital_lex.specs.declared.lexer.Lexer.{Lexer}
 use Rattle.vital_lex.specs.declared.token_list.Token.{Token}
 use Rattle.vital_lex.proofs.FoundLexemes.{moves}
-use Rattle.vital_lex.proofs.Limits.{last_kind-push, nesting-push, nesting-none, nesting_after_one, within_none, within_nesting, within_push}
+use Rattle.vital_lex.proofs.Limits.{last_kind-push, nesting-push, nesting_after_one, within_nesting, within_push}
 use Rattle.vital_lex.proofs.Steps.{next_moves, no_empty_separator}
 
 module _ (lexer : Lexer) (r : IsReading lexer) where
@@ -22,17 +21,20 @@ module _ (lexer : Lexer) (r : IsReading lexer) where
 
   -- a separator
   pub parted : (end : ℕ) → IsLongest is_separator lexer.text.now lexer.at end → IsReading (record lexer { at = end }) × (lexer.at < end)
-  parted end longest = (record {
-    size = r.size;
-    inside = longest.within;
-    lexemes = r.lexemes;
-    read = record {
-      reaches = record { row = separator r.read.reaches.row longest; within = r.read.reaches.within };
-      tokens_are = r.read.tokens_are;
-      before_is = r.read.before_is;
-      nesting_is = r.read.nesting_is;
-    };
-  }, moves is_separator lexer.text.now lexer.at end no_empty_separator longest)
+  parted end longest = (
+    record {
+      size = r.size;
+      inside = longest.within;
+      lexemes = r.lexemes;
+      read = record {
+        reaches = record { row = separator r.read.reaches.row longest; within = r.read.reaches.within };
+        tokens_are = r.read.tokens_are;
+        before_is = r.read.before_is;
+        nesting_is = r.read.nesting_is;
+      };
+    },
+    moves is_separator lexer.text.now lexer.at end no_empty_separator longest,
+  )
 
   -- neither
   pub refused_stuck : lexer.at < length lexer.text.now → NoneFits is_separator lexer.text.now lexer.at → NoneFits (is_lexeme lexer.before) lexer.text.now lexer.at → IsRefused lexer.text.now lexer.room (fault.Fault lexer.at (why_at lexer.text.now lexer.at))
@@ -72,18 +74,20 @@ module _ (lexer : Lexer) (r : IsReading lexer) where
 
       pub taken : depth ≤ 64 → (tokens : Vec Token Global) → tokens.items ≡ lexer.tokens.items ++ token_of the_lexeme ∷ [] → IsReading (record { text = lexer.text; room = lexer.room; at = end; tokens = tokens; before = Some k; nesting = depth }) × (lexer.at < end)
       taken shallow tokens pushed =
-          let forward = next_moves lexer.text.now r.lexemes the_lexeme stands in
-          (record {
-            size = r.size;
-            inside = forward.1;
-            lexemes = r.lexemes ++ the_lexeme ∷ [];
-            read = record {
-              reaches = record {
-                row = lexeme r.read.reaches.row stands;
-                within = within_push lexer.room r.lexemes the_lexeme r.read.reaches.within room_left (omega (arith, depth_here));
+          let forward = next_moves lexer.text.now r.lexemes the_lexeme stands in (
+            record {
+              size = r.size;
+              inside = forward.1;
+              lexemes = r.lexemes ++ the_lexeme ∷ [];
+              read = record {
+                reaches = record {
+                  row = lexeme r.read.reaches.row stands;
+                  within = within_push lexer.room r.lexemes the_lexeme r.read.reaches.within room_left (omega (arith, depth_here));
+                };
+                tokens_are = pushed ∙ ap (λ ts. ts ++ token_of the_lexeme ∷ []) r.read.tokens_are ∙ sym (map_push token_of r.lexemes the_lexeme);
+                before_is = sym (last_kind-push r.lexemes the_lexeme);
+                nesting_is = sym depth_here;
               };
-              tokens_are = pushed ∙ ap (λ ts. ts ++ token_of the_lexeme ∷ []) r.read.tokens_are ∙ sym (map_push token_of r.lexemes the_lexeme);
-              before_is = sym (last_kind-push r.lexemes the_lexeme);
-              nesting_is = sym depth_here;
-            };
-          }, forward.0)
+            },
+            forward.0,
+          )

@@ -1,10 +1,13 @@
 -- How a call hands on a lexer's refusal.
 use Rattle.std.proofs.Common.{◌≡◌, ℕ, List, refl, ap, sym, subst, ◌∙◌}
-use Rattle.std.specs.Prelude.{Result, Ok, Err}
+use Rattle.std.specs.Prelude.{Result, Err}
 use Rattle.vital_lex.specs.Outcome.{IsOutcome, IsRefused, Gives}
+use Rattle.vital_lex.specs.Pieces.{LexFault}
 use Rattle.vital_lex.specs.declared.faults.LexError.{LexError}
 use Rattle.vital_lex.specs.declared.faults.LexError.TheVariants as error
 use Rattle.vital_lex.specs.declared.faults.TextFault.{TextFault}
+use Rattle.vital_lex.specs.declared.faults.TextFault.TheVariants as fault
+use Rattle.vital_lex.specs.declared.faults.Why.{Why}
 use Rattle.vital_lex.specs.declared.token_list.Token.{Token}
 use Rattle.vital_lex.proofs.Outcomes.{Outcome, same_outcome}
 
@@ -16,6 +19,10 @@ Refuses text room e = (f : TextFault) → e ≡ error.Text f → IsRefused text 
 pub handed_on : (lexer_text text : List ℕ) (lexer_room room : ℕ) (e : LexError) → ((f : TextFault) → ◌≡◌ {A = Result (Unit {0}) LexError} (Err e) (Err (error.Text f)) → IsRefused lexer_text lexer_room f) → lexer_text ≡ text → lexer_room ≡ room → Refuses text room e
 handed_on lexer_text text lexer_room room e refused text_is room_is = λ f same.
     subst (λ (t : List ℕ). IsRefused t room f) text_is (subst (λ (r : ℕ). IsRefused lexer_text r f) room_is (refused f (ap Err same)))
+
+-- a fault stands where the row of pieces ends
+pub fault_place : (text : List ℕ) (room offset : ℕ) (why : Why) → IsRefused text room (fault.Fault offset why) → LexFault text offset
+fault_place text room offset why h = (h.0, h.1.row, h.2)
 
 gives_error : (text : List ℕ) (room : ℕ) (e : LexError) → Refuses text room e → (o : Outcome) → IsOutcome text room o → Gives (Err e) o
 gives_error text room (error.Text f) refused o outcome = same_outcome text room (Err f) o (refused f refl) outcome

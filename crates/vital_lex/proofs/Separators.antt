@@ -6,7 +6,7 @@ use Rattle.std.proofs.lemmas.Bool.{and_parts, and_from, and_left, and_right, ne_
 use Rattle.vital_lex.specs.Bytes.{is_blank}
 use Rattle.vital_lex.specs.Forms.{is_separator}
 use Rattle.vital_lex.specs.Pieces.{IsLongest, NoneFits}
-use Rattle.vital_lex.proofs.Ranges.{range-split, range-none, range-head, range-one, range-two}
+use Rattle.vital_lex.proofs.Ranges.{range-split, range-none, range-head, range-one}
 
 abbrev pub no_line_feed : ℕ → Bool
 no_line_feed = λ b. not (b == 10)
@@ -41,9 +41,9 @@ module _ (text : List ℕ) where
     comment_is_longest end first more_than_one second forward within passed stops =
         let next : at + 1 + 1 ≡ at + 2 = omega arith in
         let body : (e : ℕ) → at + 2 ≤ e → e ≤ length text → is_separator (slice_range text at e) ≡ list_all no_line_feed (slice_range text (at + 2) e) = λ e above e_within.
-            ap is_separator (range-head text at e (omega arith) e_within ∙ ap (λ r. get_or text at 0 ∷ r) (range-head text (at + 1) e (omega arith) e_within ∙ ap (λ n. get_or text (at + 1) 0 ∷ slice_range text n e) next))
-            ∙ ap (λ b. b && eqb (get_or text (at + 1) 0) 45 && list_all no_line_feed (slice_range text (at + 2) e)) (eq-eqb _ 45 first)
-            ∙ ap (λ b. b && list_all no_line_feed (slice_range text (at + 2) e)) (eq-eqb _ 45 second) in
+        ap is_separator (range-head text at e (omega arith) e_within ∙ ap (λ r. get_or text at 0 ∷ r) (range-head text (at + 1) e (omega arith) e_within ∙ ap (λ n. get_or text (at + 1) 0 ∷ slice_range text n e) next))
+        ∙ ap (λ b. b && eqb (get_or text (at + 1) 0) 45 && list_all no_line_feed (slice_range text (at + 2) e)) (eq-eqb _ 45 first)
+        ∙ ap (λ b. b && list_all no_line_feed (slice_range text (at + 2) e)) (eq-eqb _ 45 second) in
         record {
           forward = omega arith;
           within = within;
@@ -59,15 +59,15 @@ module _ (text : List ℕ) where
     no_separator not_blank not_comment = λ e above within.
         ⊎_elim
         (λ some.
-            let head = range-head text at e some within in
-            ⊎_elim
-            (λ two.
-                ap is_separator (head ∙ ap (λ r. get_or text at 0 ∷ r) (range-head text (at + 1) e two within))
-                ∙ and_left (eqb (get_or text at 0) 45 && eqb (get_or text (at + 1) 0) 45) (list_all no_line_feed (slice_range text (at + 1 + 1) e)) (⊎_elim
-                  (λ dash. and_right (eqb (get_or text at 0) 45) (eqb (get_or text (at + 1) 0) 45) (ne_eqb _ 45 (not_comment dash (omega arith))))
-                  (λ other. and_left (eqb (get_or text at 0) 45) _ (ne_eqb _ 45 other))
-                  (cases_eq (get_or text at 0) 45)))
-            (λ one. let here : e ≡ at + 1 = omega arith in ap (λ n. is_separator (slice_range text at n)) here ∙ ap is_separator (range-one text at inside) ∙ not_blank)
-            (cases_lt (at + 1) e))
+        let head = range-head text at e some within in
+        ⊎_elim
+        (λ two.
+        ap is_separator (head ∙ ap (λ r. get_or text at 0 ∷ r) (range-head text (at + 1) e two within))
+        ∙ and_left (eqb (get_or text at 0) 45 && eqb (get_or text (at + 1) 0) 45) (list_all no_line_feed (slice_range text (at + 1 + 1) e)) (⊎_elim
+        (λ dash. and_right (eqb (get_or text at 0) 45) (eqb (get_or text (at + 1) 0) 45) (ne_eqb _ 45 (not_comment dash (omega arith))))
+        (λ other. and_left (eqb (get_or text at 0) 45) _ (ne_eqb _ 45 other))
+        (cases_eq (get_or text at 0) 45)))
+        (λ one. let here : e ≡ at + 1 = omega arith in ap (λ n. is_separator (slice_range text at n)) here ∙ ap is_separator (range-one text at inside) ∙ not_blank)
+        (cases_lt (at + 1) e))
         (λ none. let here : e ≡ at = omega arith in ap (λ n. is_separator (slice_range text at n)) here ∙ ap is_separator (range-none text at))
         (cases_lt at e)

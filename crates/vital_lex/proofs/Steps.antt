@@ -1,10 +1,10 @@
 -- What stands at an offset: a separator, a lexeme, neither, or the end of the text, and only one of these.
-use Rattle.std.proofs.Common.{◌≡◌, ℕ, zero, suc, ◌+◌, ◌<◌, ◌≤◌, Bool, true, false, List, [], ◌∷◌, length, refl, ap, sym, subst, ◌∙◌, ◌⊎◌, inl, inr, ⊎_elim, arith, Option, Some, None}
+use Rattle.std.proofs.Common.{◌≡◌, ℕ, zero, suc, ◌<◌, ◌≤◌, Bool, true, false, List, [], length, refl, ap, sym, subst, ◌∙◌, ◌⊎◌, inl, inr, ⊎_elim, arith, Option, Some, None}
 use Rattle.std.specs.Prelude.{slice_range, is_some}
-use Rattle.std.proofs.lemmas.Bool.{cases_lt, cases_eq, cases_order, cases_Bool, true≢false, false≢true}
+use Rattle.std.proofs.lemmas.Bool.{cases_lt, cases_order, cases_Bool, true≢false, false≢true}
 use Rattle.std.proofs.lemmas.Option.{same_Some}
 use Rattle.vital_lex.specs.Forms.{is_separator, lexeme_kind}
-use Rattle.vital_lex.specs.Pieces.{IsLongest, NoneFits, IsLexeme, is_lexeme, Lexeme, last_kind, IsNext, IsStuck}
+use Rattle.vital_lex.specs.Pieces.{IsLongest, NoneFits, is_lexeme, Lexeme, last_kind, IsNext, IsStuck}
 use Rattle.vital_lex.specs.declared.kinds.Kind.{Kind}
 use Rattle.vital_lex.proofs.FirstBytes.{nothing}
 use Rattle.vital_lex.proofs.FoundLexemes.{moves}
@@ -15,10 +15,10 @@ one_end test text at a b x y =
     ⊎_elim
     (λ same. same)
     (λ apart.
-        ⊎_elim
-        (λ below. absurd (true≢false (sym y.passes ∙ x.longest b below y.within)))
-        (λ above. absurd (true≢false (sym x.passes ∙ y.longest a above x.within)))
-        apart)
+    ⊎_elim
+    (λ below. absurd (true≢false (sym y.passes ∙ x.longest b below y.within)))
+    (λ above. absurd (true≢false (sym x.passes ∙ y.longest a above x.within)))
+    apart)
     (cases_order a b)
 
 -- none fits where something does
@@ -44,29 +44,32 @@ search_below test text at zero =
     ⊎_elim
     (λ above. inr (λ end from to. absurd (omega arith)))
     (λ here.
-        ⊎_elim
-        (λ passes. search_at test text at 0 (omega arith) passes)
-        (λ fails. inr (λ end from to. let same : end ≡ 0 = omega arith in ap (λ e. test (slice_range text at e)) same ∙ fails))
-        (cases_Bool (test (slice_range text at 0))))
+    ⊎_elim
+    (λ passes. search_at test text at 0 (omega arith) passes)
+    (λ fails. inr (λ end from to. let same : end ≡ 0 = omega arith in ap (λ e. test (slice_range text at e)) same ∙ fails))
+    (cases_Bool (test (slice_range text at 0))))
     (cases_lt 0 at)
 search_below test text at (suc n) =
     ⊎_elim
     (λ above. inr (λ end from to. absurd (omega arith)))
     (λ here.
-        ⊎_elim
-        (λ passes. search_at test text at (suc n) (omega arith) passes)
-        (λ fails.
-            let at_last : (end : ℕ) → n < end → end ≤ suc n → test (slice_range text at end) ≡ false = λ end past to. let same : end ≡ suc n = omega arith in ap (λ e. test (slice_range text at e)) same ∙ fails in
-            ⊎_elim
-            (λ found. inl (found.0, record {
-              forward = found.1.forward;
-              within = omega (arith, found.1.within);
-              passes = found.1.passes;
-              last = λ more above within. ⊎_elim (λ past. at_last more past within) (λ up_to. found.1.last more above up_to) (cases_lt n more);
-            }))
-            (λ none. inr (λ end from to. ⊎_elim (λ past. at_last end past to) (λ up_to. none end from up_to) (cases_lt n end)))
-            (search_below test text at n))
-        (cases_Bool (test (slice_range text at (suc n)))))
+    ⊎_elim
+    (λ passes. search_at test text at (suc n) (omega arith) passes)
+    (λ fails.
+    let at_last : (end : ℕ) → n < end → end ≤ suc n → test (slice_range text at end) ≡ false = λ end past to. let same : end ≡ suc n = omega arith in ap (λ e. test (slice_range text at e)) same ∙ fails in
+    ⊎_elim
+    (λ found. inl (
+      found.0,
+      record {
+        forward = found.1.forward;
+        within = omega (arith, found.1.within);
+        passes = found.1.passes;
+        last = λ more above within. ⊎_elim (λ past. at_last more past within) (λ up_to. found.1.last more above up_to) (cases_lt n more);
+      },
+    ))
+    (λ none. inr (λ end from to. ⊎_elim (λ past. at_last end past to) (λ up_to. none end from up_to) (cases_lt n end)))
+    (search_below test text at n))
+    (cases_Bool (test (slice_range text at (suc n)))))
     (cases_lt (suc n) at)
 
 pub longest_or_none : (test : List ℕ → Bool) (text : List ℕ) (at : ℕ) → ((end : ℕ) × IsLongest test text at end) ⊎ NoneFits test text at
@@ -102,16 +105,16 @@ pub step_of : (text : List ℕ) (ls : List Lexeme) (at : ℕ) → at ≤ length 
 step_of text ls at inside =
     ⊎_elim
     (λ more.
-        ⊎_elim
-        (λ found. separated found.0 found.1)
-        (λ no_separator.
-            ⊎_elim
-            (λ found.
-                let value = is_some-value (lexeme_kind (last_kind ls) (slice_range text at found.0)) found.1.passes in
-                next (record { kind = value.0; start = at; end = found.0 }) refl (record { no_separator = no_separator; lexeme = record { longest = found.1; kind_is = value.1 } }))
-            (λ no_lexeme. stuck (record { inside = more; no_separator = no_separator; no_lexeme = no_lexeme }))
-            (longest_or_none (is_lexeme (last_kind ls)) text at))
-        (longest_or_none is_separator text at))
+    ⊎_elim
+    (λ found. separated found.0 found.1)
+    (λ no_separator.
+    ⊎_elim
+    (λ found.
+    let value = is_some-value (lexeme_kind (last_kind ls) (slice_range text at found.0)) found.1.passes in
+    next (record { kind = value.0; start = at; end = found.0 }) refl (record { no_separator = no_separator; lexeme = record { longest = found.1; kind_is = value.1 } }))
+    (λ no_lexeme. stuck (record { inside = more; no_separator = no_separator; no_lexeme = no_lexeme }))
+    (longest_or_none (is_lexeme (last_kind ls)) text at))
+    (longest_or_none is_separator text at))
     (λ none. ended (omega arith))
     (cases_lt at (length text))
 

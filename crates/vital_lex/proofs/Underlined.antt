@@ -1,7 +1,7 @@
 -- Bytes of a class with underlines between them.
-use Rattle.std.proofs.Common.{◌≡◌, ℕ, ◌+◌, ◌<◌, ◌≤◌, Bool, true, false, ◌&&◌, ◌||◌, eqb, List, [], ◌∷◌, ◌++◌, length, get_or, refl, ap, sym, ◌∙◌, ⊎_elim, arith}
+use Rattle.std.proofs.Common.{◌≡◌, ℕ, ◌+◌, ◌<◌, ◌≤◌, Bool, true, false, ◌&&◌, eqb, List, [], ◌∷◌, ◌++◌, length, get_or, refl, ap, sym, ◌∙◌, ⊎_elim, arith}
 use Rattle.std.specs.Prelude.{slice_range}
-use Rattle.std.proofs.lemmas.Bool.{and_parts, and_from, and_left, and_right, or_cases, or_left, or_right, or_from, eq-eqb, eqb-true, ne_eqb, cases_lt, cases_eq, false≢true}
+use Rattle.std.proofs.lemmas.Bool.{and_parts, and_from, and_left, and_right, or_cases, or_left, or_right, or_from, eq-eqb, ne_eqb, cases_lt, cases_eq, false≢true}
 use Rattle.vital_lex.specs.Forms.{begins, continues, are_underlined}
 use Rattle.vital_lex.specs.Pieces.{IsLongest, NoneFits}
 use Rattle.vital_lex.proofs.Ranges.{range-split, range-none, range-head, range-one, range-two}
@@ -34,16 +34,16 @@ module _ (class : ℕ → Bool) (text : List ℕ) where
   stops_before end other after = λ e above within.
       ⊎_elim
       (λ below.
-          let head = range-head text end e below within in
-          ap (continues class) head ∙ or_from (class (get_or text end 0)) _ other
-          (⊎_elim
-          (λ underline.
-              ⊎_elim
-              (λ more. and_right (eqb (get_or text end 0) 95) _ (ap (begins class) (range-head text (end + 1) e more within) ∙ after underline (omega arith)))
-              (λ none. let same : e ≡ end + 1 = omega arith in and_right (eqb (get_or text end 0) 95) _ (ap (begins class) (ap (λ n. slice_range text (end + 1) n) same ∙ range-none text (end + 1))))
-              (cases_lt (end + 1) e))
-          (λ ne. and_left (eqb (get_or text end 0) 95) _ (ne_eqb _ _ ne))
-          (cases_eq (get_or text end 0) 95)))
+      let head = range-head text end e below within in
+      ap (continues class) head ∙ or_from (class (get_or text end 0)) _ other
+      (⊎_elim
+      (λ underline.
+      ⊎_elim
+      (λ more. and_right (eqb (get_or text end 0) 95) _ (ap (begins class) (range-head text (end + 1) e more within) ∙ after underline (omega arith)))
+      (λ none. let same : e ≡ end + 1 = omega arith in and_right (eqb (get_or text end 0) 95) _ (ap (begins class) (ap (λ n. slice_range text (end + 1) n) same ∙ range-none text (end + 1))))
+      (cases_lt (end + 1) e))
+      (λ ne. and_left (eqb (get_or text end 0) 95) _ (ne_eqb _ _ ne))
+      (cases_eq (get_or text end 0) 95)))
       (λ none. let same : e ≡ end = omega arith in ap (λ n. continues class (slice_range text end n)) same ∙ ap (continues class) (range-none text end))
       (cases_lt end e)
 

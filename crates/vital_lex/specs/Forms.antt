@@ -1,5 +1,5 @@
 -- The forms of lexemes and separators, each a test of a whole list of bytes (IEEE 1076-1993, 13.2 to 13.8).
-use Rattle.std.specs.Prelude.{ℕ, Bool, true, false, not, ◌&&◌, ◌||◌, ◌==◌, nat_lt, if◌then◌else◌, List, [], ◌∷◌, length, map, Option, Some, None, is_some, unwrap_or}
+use Rattle.std.specs.Prelude.{ℕ, Bool, true, false, not, ◌&&◌, ◌||◌, ◌==◌, nat_lt, if◌then◌else◌, List, [], ◌∷◌, length, map, Option, Some, None, unwrap_or}
 use Rattle.std.specs.List.{list_all}
 use Rattle.std.specs.Str.{bytes_eq}
 use Rattle.vital_lex.specs.Bytes.{is_letter, is_digit, is_letter_or_digit, is_graphic, is_blank, lower_case}

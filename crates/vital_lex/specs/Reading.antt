@@ -1,5 +1,5 @@
 -- What a lexer has read.
-use Rattle.std.specs.Prelude.{◌≡◌, ℕ, ◌≤◌, List, length, map}
+use Rattle.std.specs.Prelude.{◌≡◌, ◌≤◌, List, length, map}
 use Rattle.vital_lex.specs.Nesting.{nesting}
 use Rattle.vital_lex.specs.Outcome.{Reaches}
 use Rattle.vital_lex.specs.Pieces.{Lexeme, last_kind, token_of}

@@ -8,7 +8,7 @@ ghost use Rattle.vital_lex.specs.Kinds.{number};
 pub enum Kind {
     /// A basic identifier that is no reserved word.
     Identifier,
-    /// An extended identifier, as `\\bus\\`.
+    /// An extended identifier, as `\bus\`.
     ExtendedIdentifier,
     /// An abstract literal, as `10` or `0.200`.
     Number,
@@ -62,107 +62,205 @@ pub enum Kind {
     Greater,
     /// `|`
     Bar,
+    /// `abs`
     Abs,
+    /// `access`
     Access,
+    /// `after`
     After,
+    /// `alias`
     Alias,
+    /// `all`
     All,
+    /// `and`
     And,
+    /// `architecture`
     Architecture,
+    /// `array`
     Array,
+    /// `assert`
     Assert,
+    /// `attribute`
     Attribute,
+    /// `begin`
     Begin,
+    /// `block`
     Block,
+    /// `body`
     Body,
+    /// `buffer`
     Buffer,
+    /// `bus`
     Bus,
+    /// `case`
     Case,
+    /// `component`
     Component,
+    /// `configuration`
     Configuration,
+    /// `constant`
     Constant,
+    /// `disconnect`
     Disconnect,
+    /// `downto`
     Downto,
+    /// `else`
     Else,
+    /// `elsif`
     Elsif,
+    /// `end`
     End,
+    /// `entity`
     Entity,
+    /// `exit`
     Exit,
+    /// `file`
     File,
+    /// `for`
     For,
+    /// `function`
     Function,
+    /// `generate`
     Generate,
+    /// `generic`
     Generic,
+    /// `group`
     Group,
+    /// `guarded`
     Guarded,
+    /// `if`
     If,
+    /// `impure`
     Impure,
+    /// `in`
     In,
+    /// `inertial`
     Inertial,
+    /// `inout`
     Inout,
+    /// `is`
     Is,
+    /// `label`
     Label,
+    /// `library`
     Library,
+    /// `linkage`
     Linkage,
+    /// `literal`
     Literal,
+    /// `loop`
     Loop,
+    /// `map`
     Map,
+    /// `mod`
     Mod,
+    /// `nand`
     Nand,
+    /// `new`
     New,
+    /// `next`
     Next,
+    /// `nor`
     Nor,
+    /// `not`
     Not,
+    /// `null`
     Null,
+    /// `of`
     Of,
+    /// `on`
     On,
+    /// `open`
     Open,
+    /// `or`
     Or,
+    /// `others`
     Others,
+    /// `out`
     Out,
+    /// `package`
     Package,
+    /// `port`
     Port,
+    /// `postponed`
     Postponed,
+    /// `procedure`
     Procedure,
+    /// `process`
     Process,
+    /// `pure`
     Pure,
+    /// `range`
     Range,
+    /// `record`
     Record,
+    /// `register`
     Register,
+    /// `reject`
     Reject,
+    /// `rem`
     Rem,
+    /// `report`
     Report,
+    /// `return`
     Return,
+    /// `rol`
     Rol,
+    /// `ror`
     Ror,
+    /// `select`
     Select,
+    /// `severity`
     Severity,
+    /// `shared`
     Shared,
+    /// `signal`
     Signal,
+    /// `sla`
     Sla,
+    /// `sll`
     Sll,
+    /// `sra`
     Sra,
+    /// `srl`
     Srl,
+    /// `subtype`
     Subtype,
+    /// `then`
     Then,
+    /// `to`
     To,
+    /// `transport`
     Transport,
+    /// `type`
     Type,
+    /// `unaffected`
     Unaffected,
+    /// `units`
     Units,
+    /// `until`
     Until,
+    /// `use`
     Use,
+    /// `variable`
     Variable,
+    /// `wait`
     Wait,
+    /// `when`
     When,
+    /// `while`
     While,
+    /// `with`
     With,
+    /// `xnor`
     Xnor,
+    /// `xor`
     Xor,
 }
 
 impl Kind {
-    /// The kind's number, below 125, by which tokens and grammars name it: its place in the list above, from 0.
+    /// The kind's number, below 125, by which tokens and grammars name it: its place in the list above, from 0. A
+    /// constant has it by `Kind::If as u16`, and a clause by the definition `number`.
     pub fn number(self) -> u16
         ensures { result ≡ number self }
     {

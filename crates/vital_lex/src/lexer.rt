@@ -4,15 +4,14 @@ ghost use Rattle.std.specs.Prelude.{◌≡◌, ◌<◌, ◌≤◌, ℕ, List, le
 ghost use Rattle.vital_lex.specs.Forms.{is_separator};
 ghost use Rattle.vital_lex.specs.Nesting.{nesting_after};
 ghost use Rattle.vital_lex.specs.Outcome.{Gives, IsOutcome, IsRefused, why_at};
-ghost use Rattle.vital_lex.specs.Pieces.{IsLexeme, NoneFits};
-
-use std::alloc::Global;
+ghost use Rattle.vital_lex.specs.Pieces.{IsLexeme, Lexes, LexFault, NoneFits};
 
 use crate::ends::separator_end;
 use crate::faults::{LexError, TextFault, Why};
 use crate::kinds::Kind;
 use crate::lexemes::{Found, lexeme_at};
 use crate::token_list::{Token, Tokens};
+use std::alloc::Global;
 
 /// How deep a text may be nested.
 const DEPTH: u32 = 64;
@@ -121,9 +120,13 @@ impl Lexer<'_> {
 /// the nesting 65; the lack of room comes first where both stand at one offset.
 pub fn lex_vhdl(alloc: Global, text: &[u8], room: u32) -> Result<Tokens, LexError>
     requires { length text.now ≤ 16777216 }
-    // The tokens are those of the whole text, within the limits.
+    // The tokens are the lexemes of the whole text.
+    ensures lexes { IfOk result (Lexes text.now) }
+    // And they are within the limits.
     ensures read { IfOk result (λ tokens. IsOutcome text.now room (Ok tokens)) }
-    // A refusal stands where the text is refused so.
+    // A fault stands where nothing fits after a row of pieces.
+    ensures faults { (offset : ℕ) (why : Why) → result ≡ Err (LexError.Text (TextFault.Fault offset why)) → LexFault text.now offset }
+    // A refusal, a fault or a limit, stands where the text is refused so.
     ensures refused { (fault : TextFault) → result ≡ Err (LexError.Text fault) → IsOutcome text.now room (Err fault) }
     // Whatever comes of the text is the answer, unless memory runs out.
     ensures only { (outcome : Result (List Token) TextFault) → IsOutcome text.now room outcome → Gives result outcome }
@@ -146,5 +149,4 @@ pub fn lex_vhdl(alloc: Global, text: &[u8], room: u32) -> Result<Tokens, LexErro
 pub fn one_outcome()
     ensures { (text : List ℕ) (room : ℕ) → (outcome : Result (List Token) TextFault) × IsOutcome text room outcome
         × ((other : Result (List Token) TextFault) → IsOutcome text room other → other ≡ outcome) }
-{
-}
+{}

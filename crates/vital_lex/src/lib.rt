@@ -17,3 +17,6 @@ pub use kinds::Kind;
 pub use lexer::{lex_vhdl, one_outcome};
 pub use places::line_column;
 pub use token_list::{Token, Tokens};
+
+#[cfg(test)]
+mod tests;

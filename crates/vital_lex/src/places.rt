@@ -12,8 +12,8 @@ pub fn line_column(text: &[u8], offset: u32) -> (u32, u32)
 {
     let mut line = 1;
     let mut column = 1;
-    for b in &text[..offset as usize] {
-        if *b == b'\n' {
+    for i in 0..offset as usize {
+        if text[i] == b'\n' {
             line += 1;
             column = 1;
         } else {

@@ -79,10 +79,7 @@ static WORDS_IN_L: [(&[u8], Kind); 5] = [
     (b"loop", Kind::Loop),
 ];
 
-static WORDS_IN_M: [(&[u8], Kind); 2] = [
-    (b"map", Kind::Map),
-    (b"mod", Kind::Mod),
-];
+static WORDS_IN_M: [(&[u8], Kind); 2] = [(b"map", Kind::Map), (b"mod", Kind::Mod)];
 
 static WORDS_IN_N: [(&[u8], Kind); 6] = [
     (b"nand", Kind::Nand),
@@ -149,9 +146,7 @@ static WORDS_IN_U: [(&[u8], Kind); 4] = [
     (b"use", Kind::Use),
 ];
 
-static WORDS_IN_V: [(&[u8], Kind); 1] = [
-    (b"variable", Kind::Variable),
-];
+static WORDS_IN_V: [(&[u8], Kind); 1] = [(b"variable", Kind::Variable)];
 
 static WORDS_IN_W: [(&[u8], Kind); 4] = [
     (b"wait", Kind::Wait),
@@ -160,10 +155,7 @@ static WORDS_IN_W: [(&[u8], Kind); 4] = [
     (b"with", Kind::With),
 ];
 
-static WORDS_IN_X: [(&[u8], Kind); 2] = [
-    (b"xnor", Kind::Xnor),
-    (b"xor", Kind::Xor),
-];
+static WORDS_IN_X: [(&[u8], Kind); 2] = [(b"xnor", Kind::Xnor), (b"xor", Kind::Xor)];
 
 /// Whether the word is this one in lower case.
 fn is_in_lower_case(word: &[u8], lower: &[u8]) -> bool

@@ -1,5 +1,5 @@
 use Rattle.std.proofs.Common.{◌≡◌, ◌+◌, ◌<◌, length, false, get_or, sym, ◌∙◌, arith}
-use Rattle.vital_lex.specs.Bytes.{is_letter, is_digit}
+use Rattle.vital_lex.specs.Bytes.{is_digit}
 use Rattle.vital_lex.specs.Pieces.{NoneFits}
 use Rattle.vital_lex.specs.Forms.{continues}
 use Rattle.vital_lex.proofs.Underlined.{underlined_more, underlined_past, underlined_longest, stops_before}
@@ -26,7 +26,7 @@ stops c =
     let text = c.args.text.now in
     let end = c.loop-end.end in
     let after : get_or text end 0 ≡ 95 → end + 1 < length text → is_digit (get_or text (end + 1) 0) ≡ false = elim c.else-text-end-eq95.branch [
-      else-text-end-eq95-via-then-text-end-eq95+then-end-text+else-is_digit-2 w ↦ λ _ _. sym w.is_digit-then-end-text.ensures ∙ w.if-is_digit-2.false
+      | else-text-end-eq95-via-then-text-end-eq95+then-end-text+else-is_digit-2 w ↦ λ _ _. sym w.is_digit-then-end-text.ensures ∙ w.if-is_digit-2.false
       | else-text-end-eq95-via-then-text-end-eq95+else-end-text w ↦ λ _ more. absurd (omega arith)
       | else-text-end-eq95-via-else-text-end-eq95 w ↦ λ underline _. absurd (w.if-text-end-eq95.false underline)
     ] in

@@ -1,4 +1,4 @@
-use Rattle.std.proofs.Common.{◌≡◌, ◌-◌, ◌<◌, ◌≤◌, true, length}
+use Rattle.std.proofs.Common.{◌≡◌, ◌-◌, ◌≤◌, true, length}
 use Rattle.std.specs.Prelude.{slice_range}
 use Rattle.std.specs.List.{list_all}
 use Rattle.vital_lex.proofs.Separators.{no_line_feed}

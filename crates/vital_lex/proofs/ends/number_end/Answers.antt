@@ -13,7 +13,7 @@ returns-else-point-text c =
     let text = c.args.text.now in
     let point = c.integer_end-point.result in
     let no_fraction : get_or text point 0 ≡ 46 → point + 1 < length text → is_digit (get_or text (point + 1) 0) ≡ false = elim c.else-point-text.branch [
-      else-point-text-via-then-point-text+then-text-point-eq46+else-is_digit w ↦ λ _ _. sym w.is_digit.ensures ∙ w.if-is_digit.false
+      | else-point-text-via-then-point-text+then-text-point-eq46+else-is_digit w ↦ λ _ _. sym w.is_digit.ensures ∙ w.if-is_digit.false
       | else-point-text-via-then-point-text+else-text-point-eq46 w ↦ λ dot _. absurd (w.if-text-point-eq46.false dot)
       | else-point-text-via-else-point-text w ↦ λ _ more. absurd (omega arith)
     ] in

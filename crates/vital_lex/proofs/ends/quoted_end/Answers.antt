@@ -9,7 +9,7 @@ returns-then-end-text c =
     let text = c.args.text.now in
     let end = c.loop-end.end in
     let alone : end + 1 < length text → get_or text (end + 1) 0 ≡ c.args.mark → ⊥ = elim c.then-end-text.branch [
-      then-end-text-via-then-end-text w ↦ λ more _. absurd (omega (arith, w.if-end-text.true))
+      | then-end-text-via-then-end-text w ↦ λ more _. absurd (omega (arith, w.if-end-text.true))
       | then-end-text-via-else-end-text+then-text-end w ↦ λ _ second. w.if-text-end.true second
     ] in
     closed_single c.args.mark text c.args.at end c.loop-end.invariant.forward c.loop-end.invariant.open_here c.loop-end-test.true c.if-b-mark.true alone

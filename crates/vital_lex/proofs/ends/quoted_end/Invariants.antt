@@ -1,4 +1,4 @@
-use Rattle.std.proofs.Common.{◌≡◌, ◌-◌, ◌<◌, ◌≤◌, length}
+use Rattle.std.proofs.Common.{◌-◌, ◌≤◌, length}
 use Rattle.vital_lex.proofs.Quoted.{IsOpen, LastClosed}
 use Rattle.vital_lex.proofs.ends.quoted_end.Given as goal
 

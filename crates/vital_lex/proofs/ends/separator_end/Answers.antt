@@ -16,7 +16,7 @@ returns-else-text-at-eq45 c =
     let text = c.args.text.now in
     let at = c.args.at in
     let no_comment : get_or text at 0 ≡ 45 → at + 1 < length text → get_or text (at + 1) 0 ≡ 45 → ⊥ = elim c.else-text-at-eq45.branch [
-      else-text-at-eq45-via-then-text-at-eq45+then-at-text+else-text-at-eq45-2 w ↦ λ _ _ second. w.if-text-at-eq45-2.false second
+      | else-text-at-eq45-via-then-text-at-eq45+then-at-text+else-text-at-eq45-2 w ↦ λ _ _ second. w.if-text-at-eq45-2.false second
       | else-text-at-eq45-via-then-text-at-eq45+else-at-text w ↦ λ _ more _. absurd (omega arith)
       | else-text-at-eq45-via-else-text-at-eq45 w ↦ λ first _ _. w.if-text-at-eq45.false first
     ] in

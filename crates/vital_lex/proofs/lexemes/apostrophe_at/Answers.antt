@@ -17,7 +17,7 @@ returns c =
     let text = c.args.text.now in
     let at = c.args.at in
     let other : at + 2 < length text → is_graphic (get_or text (at + 1) 0) ≡ true → get_or text (at + 2) 0 ≡ 39 → ⊥ = elim c.else-at-text.branch [
-      else-at-text-via-then-at-text+then-is_graphic+else-text-at-eq39 w ↦ λ _ _ closed. w.if-text-at-eq39.false closed
+      | else-at-text-via-then-at-text+then-is_graphic+else-text-at-eq39 w ↦ λ _ _ closed. w.if-text-at-eq39.false closed
       | else-at-text-via-then-at-text+else-is_graphic w ↦ λ _ graphic _. both_ways _ (sym w.is_graphic.ensures ∙ w.if-is_graphic.false) graphic
       | else-at-text-via-else-at-text w ↦ λ more _ _. omega arith
     ] in

@@ -4,7 +4,8 @@ use Rattle.vital_lex.specs.Outcome.{IsOutcome, Reaches}
 use Rattle.vital_lex.specs.Pieces.{empty}
 use Rattle.vital_lex.proofs.Limits.{nesting-none, within_none}
 use Rattle.vital_lex.proofs.Outcomes.{same_outcome}
-use Rattle.vital_lex.proofs.Refusals.{Refuses, handed_on, answer_refused, answer_gives}
+use Rattle.vital_lex.specs.declared.faults.TextFault.TheVariants as fault
+use Rattle.vital_lex.proofs.Refusals.{fault_place, Refuses, handed_on, answer_refused, answer_gives}
 use Rattle.vital_lex.proofs.lexer.lex_vhdl.Goals as goal
 use Rattle.vital_lex.proofs.lexer.lex_vhdl.Goals.{After-drop-lexer, After-from_vec}
 
@@ -47,6 +48,11 @@ returns-in_err-advance-clause-refused c =
     let p = err_from_is_err_and c.from_residual.result c.from_residual.ensures.1 in
     answer_refused c.args.text.now c.args.room c.from_residual.result c.in_err-advance.field-0.0 (p.1 ∙ ap Err p.2) (refuses (goal.at.returns-in_err-advance-clause-refused c).After-drop-lexer)
 
+pub returns-in_err-advance-clause-faults : goal.returns-in_err-advance-clause-faults
+returns-in_err-advance-clause-faults c = λ offset why same.
+    let p = err_from_is_err_and c.from_residual.result c.from_residual.ensures.1 in
+    fault_place c.args.text.now c.args.room offset why (answer_refused c.args.text.now c.args.room c.from_residual.result c.in_err-advance.field-0.0 (p.1 ∙ ap Err p.2) (refuses (goal.at.returns-in_err-advance-clause-faults c).After-drop-lexer) (fault.Fault offset why) same)
+
 pub returns-in_err-advance-clause-only : goal.returns-in_err-advance-clause-only
 returns-in_err-advance-clause-only c =
     let p = err_from_is_err_and c.from_residual.result c.from_residual.ensures.1 in
@@ -58,12 +64,16 @@ whole c =
     let lexer = c.loop-lexer.lexer in
     let reading = c.loop-lexer.invariant.reading in
     let text_is = c.loop-lexer.invariant.text_is in
-    let at_end : lexer.at ≡ length c.args.text.now = omega (arith, ap length text_is, reading.inside) in
-    (reading.lexemes,
-    subst (λ (a : ℕ). Reaches c.args.text.now c.args.room a reading.lexemes) at_end
-    (subst (λ (t : List ℕ). Reaches t c.args.room lexer.at reading.lexemes) text_is
-    (subst (λ (r : ℕ). Reaches lexer.text.now r lexer.at reading.lexemes) c.loop-lexer.invariant.room_is reading.read.reaches)),
-    c.from_vec.ensures ∙ reading.read.tokens_are)
+    let at_end : lexer.at ≡ length c.args.text.now = omega (arith, ap length text_is, reading.inside) in (
+      reading.lexemes,
+      subst (λ (a : ℕ). Reaches c.args.text.now c.args.room a reading.lexemes) at_end
+          (subst (λ (t : List ℕ). Reaches t c.args.room lexer.at reading.lexemes) text_is
+          (subst (λ (r : ℕ). Reaches lexer.text.now r lexer.at reading.lexemes) c.loop-lexer.invariant.room_is reading.read.reaches)),
+      c.from_vec.ensures ∙ reading.read.tokens_are,
+    )
+
+pub returns-clause-lexes : goal.returns-clause-lexes
+returns-clause-lexes c = let w = whole (goal.at.returns-clause-lexes c).After-from_vec in (w.0, w.1.row, w.2)
 
 pub returns-clause-read : goal.returns-clause-read
 returns-clause-read c = whole (goal.at.returns-clause-read c).After-from_vec

@@ -1,4 +1,4 @@
-use Rattle.std.proofs.Common.{◌≡◌, length, map, unwrap_or}
+use Rattle.std.proofs.Common.{◌≡◌, length, map}
 use Rattle.vital_lex.specs.Bytes.{lower_case}
 use Rattle.vital_lex.specs.Forms.{kind_in}
 use Rattle.vital_lex.proofs.words.kind_in.Given as goal

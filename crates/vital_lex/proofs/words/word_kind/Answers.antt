@@ -1,4 +1,4 @@
-use Rattle.std.proofs.Common.{refl, arith, rules, map, sym, ◌∙◌}
+use Rattle.std.proofs.Common.{refl, rules, map, sym, ◌∙◌}
 use Rattle.vital_lex.specs.declared.words.TheConstants.{WORDS_IN_A, WORDS_IN_B, WORDS_IN_C, WORDS_IN_D, WORDS_IN_E, WORDS_IN_F, WORDS_IN_G, WORDS_IN_I, WORDS_IN_L, WORDS_IN_M, WORDS_IN_N, WORDS_IN_O, WORDS_IN_P, WORDS_IN_R, WORDS_IN_S, WORDS_IN_T, WORDS_IN_U, WORDS_IN_V, WORDS_IN_W, WORDS_IN_X}
 use Rattle.vital_lex.proofs.WordTables.{at_letter, at_no_letter}
 use Rattle.vital_lex.proofs.words.word_kind.Goals as goal
