@@ -1,2 +1,3 @@
 pub mod Predictive
 pub mod Turns
+pub mod Answered

@@ -8,5 +8,12 @@ pub mod Statements
 pub mod Shapes
 pub mod Branching
 pub mod Rows
+pub mod RuleNumbers
+pub mod UnitRules
+pub mod DeclarationRules
+pub mod StatementRules
+pub mod ExpressionRules
 pub mod Grammar
 pub mod Tables
+pub mod Outcomes
+pub mod Libraries

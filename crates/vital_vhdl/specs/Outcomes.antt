@@ -56,10 +56,3 @@ GivesUnits (Ok read) outcome = outcome ≡ Ok read
 GivesUnits (Err (error.Lex fault)) outcome = outcome ≡ Err (error.Lex fault)
 GivesUnits (Err (error.Refused place)) outcome = outcome ≡ Err (error.Refused place)
 GivesUnits (Err error.NoMemory) outcome = Unit {0}
-
--- the same of the tokens alone
-abbrev pub GivesTokens : Result (List Token) UnitError → Result (List Token) TextFault → Type 0
-GivesTokens (Ok tokens) outcome = outcome ≡ Ok tokens
-GivesTokens (Err (error.Lex fault)) outcome = outcome ≡ Err fault
-GivesTokens (Err (error.Refused place)) outcome = ⊥
-GivesTokens (Err error.NoMemory) outcome = Unit {0}

@@ -7,9 +7,11 @@ mod decl;
 mod declarations;
 mod expr;
 mod expressions;
+mod grammar;
 mod identifiers;
 mod operators;
 mod place;
+mod reading;
 mod shared;
 mod spot;
 mod statements;
@@ -26,6 +28,10 @@ pub use expr::{
     Reference, Relational, Sign, Suffix,
 };
 pub use place::Place;
+pub use reading::{UnitError, read_units};
 pub use shared::Shared;
 pub use stmt::{Assignment, Block, Branch, Conc, Maps, Process, Stmt};
 pub use unit::{Arch, Config, Entity, Pack, Role, Unit, Units};
+
+#[cfg(test)]
+mod tests;

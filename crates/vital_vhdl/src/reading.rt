@@ -1,13 +1,13 @@
 //! Reading the text of a file.
 
-ghost use Rattle.std.specs.Prelude.{◌≡◌, ◌<◌, ◌≤◌, ◌^◌, ℕ, List, Result, length, Ok, Err, IfOk};
+ghost use Rattle.std.specs.Prelude.{◌≡◌, ◌<◌, ◌≤◌, ◌^◌, ℕ, List, Result, length, Ok, Err, IfErr, IfOk};
 ghost use Rattle.vital_lex.specs.Outcome.{IsOutcome};
 ghost use Rattle.vital_lex.specs.declared.faults.TextFault.{TextFault};
-ghost use Rattle.vital_lex.specs.declared.token_list.Token.{Token};
+ghost use Rattle.vital_ll.specs.Refusal.{IsRefusal};
 ghost use Rattle.vital_ll.specs.Sentence.{IsTreeOf};
 ghost use Rattle.vital_ll.specs.declared.derivation.Step.{Step};
 ghost use Rattle.vital_vhdl.specs.Grammar.{grammar};
-ghost use Rattle.vital_vhdl.specs.Outcomes.{GivesTokens, GivesUnits, IsReading, IsRefusedAtPlace, IsRefusedText, IsUnitsOf, kinds_of, offset_of};
+ghost use Rattle.vital_vhdl.specs.Outcomes.{GivesUnits, IsReading, IsRefusedText, IsUnitsOf, kinds_of, offset_of};
 ghost use Rattle.vital_vhdl.specs.Reading.{place_at};
 ghost use Rattle.vital_vhdl.specs.Shapes.{shape};
 ghost use Rattle.vital_vhdl.specs.declared.place.Place.{Place};
@@ -23,7 +23,7 @@ use crate::unit::{Role, Unit, Units};
 use crate::units::file_units;
 use std::alloc::{AllocError, AllocFailed, Global};
 use vital_base::List;
-use vital_lex::{LexError, TextFault, Token, Tokens, lex_vhdl};
+use vital_lex::{LexError, TextFault, Token, lex_vhdl};
 use vital_ll::{ParseError, Rules, RulesError, Step, Tree, masks_decide, parse, ranks_derive};
 
 /// Why a file has no units.
@@ -51,20 +51,6 @@ impl<T: Drop> From<AllocFailed<T>> for UnitError {
 
     fn from(_error: AllocFailed<T>) -> UnitError {
         UnitError::NoMemory
-    }
-}
-
-/// The tokens of a text.
-fn lexed(alloc: Global, text: &[u8], room: u32) -> Result<Tokens, UnitError>
-    requires { length text.now ≤ 16777216 }
-    ensures read { IfOk result (λ tokens. IsOutcome text.now room (Ok tokens)) }
-    ensures lexical { (fault : TextFault) → result ≡ Err (UnitError.Lex fault) → IsOutcome text.now room (Err fault) }
-    ensures only { (outcome : Result (List Token) TextFault) → IsOutcome text.now room outcome → GivesTokens result outcome }
-{
-    match lex_vhdl(alloc, text, room) {
-        Ok(tokens) => Ok(tokens),
-        Err(LexError::Text(fault)) => Err(UnitError::Lex(fault)),
-        Err(LexError::NoMemory) => Err(UnitError::NoMemory),
     }
 }
 
@@ -110,28 +96,15 @@ fn place_of(file: u32, text: &[u8], tokens: &[Token], token: u32) -> Place
 }
 
 /// The derivation of the tokens of a file.
-fn derived(
-    alloc: Global,
-    file: u32,
-    text: &[u8],
-    tokens: &[Token],
-) -> Result<Tree, UnitError>
-    requires size { length text.now ≤ 16777216 }
-    requires few { length tokens.now < 2 ^ 32 }
+fn derived(alloc: Global, tokens: &[Token]) -> Result<Tree, ParseError>
+    requires { length tokens.now < 2 ^ 32 }
     ensures tree { IfOk result (IsTreeOf grammar (kinds_of tokens.now)) }
     ensures only { IfOk result (λ tree. (other : List Step) → IsTreeOf grammar (kinds_of tokens.now) other → other ≡ tree) }
-    ensures refused { (place : Place) → result ≡ Err (UnitError.Refused place) → IsRefusedAtPlace file text.now tokens.now place }
-    ensures no_fault { (fault : TextFault) → result ≡ Err (UnitError.Lex fault) → ⊥ }
+    ensures refused { IfErr result (IsRefusal grammar (kinds_of tokens.now)) }
 {
     let rules = rules(alloc)?;
     let kinds = kinds_of(alloc, tokens)?;
-    match parse(alloc, &rules, kinds.as_slice()) {
-        Ok(tree) => Ok(tree),
-        Err(ParseError::Refused { token }) => Err(UnitError::Refused {
-            place: place_of(file, text, tokens, token),
-        }),
-        Err(ParseError::NoMemory) => Err(UnitError::NoMemory),
-    }
+    parse(alloc, &rules, kinds.as_slice())
 }
 
 /// The shape of a derivation.
@@ -170,12 +143,24 @@ pub fn read_units(
     // Whatever comes of the file is the answer, unless memory runs out.
     ensures only { (outcome : Result Units UnitError) → IsReading file role text.now room outcome → GivesUnits result outcome }
 {
-    let tokens = lexed(alloc, text, room)?;
-    let tree = derived(alloc, file, text, tokens.as_slice())?;
-    let units = shaped(alloc, file, text, tokens.as_slice(), tree.steps())?;
+    let tokens = match lex_vhdl(alloc, text, room) {
+        Ok(tokens) => tokens,
+        Err(LexError::Text(fault)) => return Err(UnitError::Lex(fault)),
+        Err(LexError::NoMemory) => return Err(UnitError::NoMemory),
+    };
+    let list = tokens.as_slice();
+    let tree = match derived(alloc, list) {
+        Ok(tree) => tree,
+        Err(ParseError::Refused { token }) => {
+            let place = place_of(file, text, list, token);
+            return Err(UnitError::Refused { place });
+        }
+        Err(ParseError::NoMemory) => return Err(UnitError::NoMemory),
+    };
+    let units = shaped(alloc, file, text, list, tree.steps())?;
     Ok(Units {
         role,
         units: List::new(units),
-        tokens: tokens.as_slice().len() as u32,
+        tokens: list.len() as u32,
     })
 }
