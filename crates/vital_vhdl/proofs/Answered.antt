@@ -36,9 +36,9 @@ one_refusal g kinds j k p q =
     elim (cases_lt j k) [
       | inl lt ↦ absurd (p.refused (q.least j lt))
       | inr le ↦ elim (cases_lt k j) [
-          | inl lt ↦ absurd (q.refused (p.least k lt))
-          | inr ge ↦ omega arith
-        ]
+        | inl lt ↦ absurd (q.refused (p.least k lt))
+        | inr ge ↦ omega arith
+      ]
     ]
 
 -- the text has a fault
@@ -62,7 +62,7 @@ only_refusal file role text room tokens k only none first (Err (error.Refused pl
     let same : h.tokens ≡ tokens = (let e = only (Ok h.tokens) h.lexed in cc) in
     let number : h.refused.token ≡ k = one_refusal grammar (kinds_of tokens) h.refused.token k (subst (λ (ts : List Token). IsRefusedAt grammar (kinds_of ts) h.refused.token) same h.refused.first) first in
     ap (λ (p : Place). Err (error.Refused p))
-      (h.refused.place_is ∙ ap (λ (ts : List Token). place_at file text (offset_of text ts h.refused.token)) same ∙ ap (λ (n : ℕ). place_at file text (offset_of text tokens n)) number)
+    (h.refused.place_is ∙ ap (λ (ts : List Token). place_at file text (offset_of text ts h.refused.token)) same ∙ ap (λ (n : ℕ). place_at file text (offset_of text tokens n)) number)
 only_refusal file role text room tokens k only none first (Err error.NoMemory) h = absurd h
 
 -- there is a derivation

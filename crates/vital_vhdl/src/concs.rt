@@ -204,11 +204,7 @@ impl<F: Fn(Global, &mut Cursor<'_>, usize) -> Result<Items<Conc>, AllocError>> B
 
     /// A statement that begins with an identifier.
     #[tactic(auto, unfolding(crate::specs::Statements::after_identifier))]
-    fn after_identifier(
-        &self,
-        cursor: &mut Cursor<'_>,
-        place: Place,
-    ) -> Result<Conc, AllocError>
+    fn after_identifier(&self, cursor: &mut Cursor<'_>, place: Place) -> Result<Conc, AllocError>
         requires { ReadsConcs self.now.levels (F.pre self.now.concs) (F.post self.now.concs) }
         ensures { Reads (spec.after_identifier (spec.concs_within self.now.levels) place cursor.old) result cursor.new }
     {

@@ -40,7 +40,12 @@ impl<'a> Model for Cursor<'a> {
 
 impl<'a> Cursor<'a> {
     /// The cursor at the beginning of a file.
-    pub(crate) fn new(file: u32, text: &'a [u8], tokens: &'a [Token], steps: &'a [Step]) -> Cursor<'a>
+    pub(crate) fn new(
+        file: u32,
+        text: &'a [u8],
+        tokens: &'a [Token],
+        steps: &'a [Step],
+    ) -> Cursor<'a>
         requires { length text.now ≤ 16777216 }
         ensures { result ≡ record { steps = steps.now; tokens = tokens.now; text = text.now; file = file } }
     {

@@ -133,11 +133,7 @@ fn iface_parts(
 
 /// Adds the interfaces that are declared together.
 #[tactic(auto, unfolding(crate::specs::Declarations::iface))]
-fn iface(
-    alloc: Global,
-    cursor: &mut Cursor<'_>,
-    found: &mut Items<Iface>,
-) -> Result<(), AllocError>
+fn iface(alloc: Global, cursor: &mut Cursor<'_>, found: &mut Items<Iface>) -> Result<(), AllocError>
     ensures { Appends (spec.iface cursor.old) result found.old found.new cursor.new }
 {
     cursor.choice();
@@ -179,10 +175,7 @@ fn more_ifaces(
 
 /// The generics or the ports behind their word, if they are written.
 #[tactic(auto, unfolding(crate::specs::Declarations::interfaces))]
-pub(crate) fn interfaces(
-    alloc: Global,
-    cursor: &mut Cursor<'_>,
-) -> Result<Items<Iface>, AllocError>
+pub(crate) fn interfaces(alloc: Global, cursor: &mut Cursor<'_>) -> Result<Items<Iface>, AllocError>
     ensures { Reads (spec.interfaces cursor.old) result cursor.new }
 {
     let mut first = Items::new(alloc);
@@ -380,11 +373,7 @@ fn single(alloc: Global, cursor: &mut Cursor<'_>, alternative: u16) -> Result<De
 
 /// Adds what a declaration declares.
 #[tactic(auto, unfolding(crate::specs::Declarations::decl))]
-fn decl(
-    alloc: Global,
-    cursor: &mut Cursor<'_>,
-    found: &mut Items<Decl>,
-) -> Result<(), AllocError>
+fn decl(alloc: Global, cursor: &mut Cursor<'_>, found: &mut Items<Decl>) -> Result<(), AllocError>
     ensures { Appends (spec.decl cursor.old) result found.old found.new cursor.new }
 {
     let alternative = cursor.choice();

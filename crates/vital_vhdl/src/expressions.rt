@@ -38,7 +38,11 @@ fn number(alloc: Global, cursor: &mut Cursor<'_>) -> Result<Expr, AllocError>
         return Ok(Expr::Number(place, number));
     }
     let unit = cursor.identifier(alloc)?;
-    let physical = Physical { place, number, unit };
+    let physical = Physical {
+        place,
+        number,
+        unit,
+    };
     Ok(Expr::Physical(Boxed::new(alloc, physical)?))
 }
 
@@ -164,7 +168,11 @@ impl<F: Fn(Global, &mut Cursor<'_>, usize) -> Result<Items<Item>, AllocError>> N
     }
 
     #[tactic(auto, unfolding(crate::specs::Expressions::next_factor))]
-    fn next_factor(&self, cursor: &mut Cursor<'_>, alternative: u16) -> Result<(Multiplying, Expr), AllocError>
+    fn next_factor(
+        &self,
+        cursor: &mut Cursor<'_>,
+        alternative: u16,
+    ) -> Result<(Multiplying, Expr), AllocError>
         requires { ReadsItems self.now.levels (F.pre self.now.items) (F.post self.now.items) }
         ensures { Reads (spec.next_factor (spec.items_within self.now.levels) alternative cursor.old) result cursor.new }
     {
@@ -202,7 +210,11 @@ impl<F: Fn(Global, &mut Cursor<'_>, usize) -> Result<Items<Item>, AllocError>> N
     }
 
     #[tactic(auto, unfolding(crate::specs::Expressions::next_term))]
-    fn next_term(&self, cursor: &mut Cursor<'_>, alternative: u16) -> Result<(Adding, Expr), AllocError>
+    fn next_term(
+        &self,
+        cursor: &mut Cursor<'_>,
+        alternative: u16,
+    ) -> Result<(Adding, Expr), AllocError>
         requires { ReadsItems self.now.levels (F.pre self.now.items) (F.post self.now.items) }
         ensures { Reads (spec.next_term (spec.items_within self.now.levels) alternative cursor.old) result cursor.new }
     {
@@ -272,7 +284,11 @@ impl<F: Fn(Global, &mut Cursor<'_>, usize) -> Result<Items<Item>, AllocError>> N
 
     /// Those that were found, and each further one behind an operator.
     #[tactic(auto, using(crate::proofs::Turns::runs_out), unfolding(crate::specs::Reading::left))]
-    fn relations(&self, cursor: &mut Cursor<'_>, mut found: Items<Expr>) -> Result<Items<Expr>, AllocError>
+    fn relations(
+        &self,
+        cursor: &mut Cursor<'_>,
+        mut found: Items<Expr>,
+    ) -> Result<Items<Expr>, AllocError>
         requires { ReadsItems self.now.levels (F.pre self.now.items) (F.post self.now.items) }
         ensures { Reads (more (λ _. after (spec.relation (spec.items_within self.now.levels))) found cursor.old) result cursor.new }
     {
@@ -287,7 +303,12 @@ impl<F: Fn(Global, &mut Cursor<'_>, usize) -> Result<Items<Item>, AllocError>> N
     }
 
     #[tactic(auto, unfolding(crate::specs::Expressions::operands))]
-    fn operands(&self, cursor: &mut Cursor<'_>, first: Expr, alternative: u16) -> Result<Items<Expr>, AllocError>
+    fn operands(
+        &self,
+        cursor: &mut Cursor<'_>,
+        first: Expr,
+        alternative: u16,
+    ) -> Result<Items<Expr>, AllocError>
         requires { ReadsItems self.now.levels (F.pre self.now.items) (F.post self.now.items) }
         ensures { Reads (spec.operands (spec.items_within self.now.levels) first alternative cursor.old) result cursor.new }
     {
@@ -396,7 +417,11 @@ impl<F: Fn(Global, &mut Cursor<'_>, usize) -> Result<Items<Item>, AllocError>> N
     }
 
     #[tactic(auto, using(crate::proofs::Turns::runs_out), unfolding(crate::specs::Reading::left))]
-    fn more_items(&self, cursor: &mut Cursor<'_>, mut found: Items<Item>) -> Result<Items<Item>, AllocError>
+    fn more_items(
+        &self,
+        cursor: &mut Cursor<'_>,
+        mut found: Items<Item>,
+    ) -> Result<Items<Item>, AllocError>
         requires { ReadsItems self.now.levels (F.pre self.now.items) (F.post self.now.items) }
         ensures { Reads (more (λ _. after (spec.one_item (spec.items_within self.now.levels))) found cursor.old) result cursor.new }
     {
@@ -503,10 +528,7 @@ fn items_within(
 }
 
 /// Items that stand in no parentheses but those around them.
-pub(crate) fn items(
-    alloc: Global,
-    cursor: &mut Cursor<'_>,
-) -> Result<Items<Item>, AllocError>
+pub(crate) fn items(alloc: Global, cursor: &mut Cursor<'_>) -> Result<Items<Item>, AllocError>
     ensures { Reads (spec.items cursor.old) result cursor.new }
 {
     let levels = cursor.left();
@@ -582,10 +604,7 @@ fn more_names(
 
 /// One name or more, parted by commas.
 #[tactic(auto, unfolding(crate::specs::Expressions::names))]
-pub(crate) fn names(
-    alloc: Global,
-    cursor: &mut Cursor<'_>,
-) -> Result<Items<Reference>, AllocError>
+pub(crate) fn names(alloc: Global, cursor: &mut Cursor<'_>) -> Result<Items<Reference>, AllocError>
     ensures { Reads (spec.names cursor.old) result cursor.new }
 {
     let first = name(alloc, cursor)?;

@@ -206,10 +206,7 @@ fn statements_within(
 }
 
 /// The statements of a process.
-pub(crate) fn statements(
-    alloc: Global,
-    cursor: &mut Cursor<'_>,
-) -> Result<Items<Stmt>, AllocError>
+pub(crate) fn statements(alloc: Global, cursor: &mut Cursor<'_>) -> Result<Items<Stmt>, AllocError>
     ensures { Reads (spec.statements cursor.old) result cursor.new }
 {
     let levels = cursor.left();

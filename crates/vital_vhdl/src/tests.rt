@@ -40,21 +40,57 @@ fn refuses_each_rule_at_its_first_wrong_token(rt: HostRuntime) -> Result<(), Fai
         (b"architecture A of E is begin X : if", (1, 34)),
         (b"architecture A of E is begin X : Y port (", (1, 41)),
         (b"architecture A of E is begin process (A b", (1, 41)),
-        (b"architecture A of E is begin process begin X := ;", (1, 49)),
-        (b"architecture A of E is begin process begin if A B", (1, 49)),
-        (b"architecture A of E is begin process begin null end", (1, 49)),
-        (b"architecture A of E is begin process begin if A then elsif ;", (1, 60)),
-        (b"architecture A of E is begin process begin if A then else elsif", (1, 59)),
+        (
+            b"architecture A of E is begin process begin X := ;",
+            (1, 49),
+        ),
+        (
+            b"architecture A of E is begin process begin if A B",
+            (1, 49),
+        ),
+        (
+            b"architecture A of E is begin process begin null end",
+            (1, 49),
+        ),
+        (
+            b"architecture A of E is begin process begin if A then elsif ;",
+            (1, 60),
+        ),
+        (
+            b"architecture A of E is begin process begin if A then else elsif",
+            (1, 59),
+        ),
         (b"architecture A of E is begin process begin X . (", (1, 48)),
         (b"architecture A of E is begin process begin X';", (1, 46)),
         (b"architecture A of E is begin process begin X ( ,", (1, 48)),
-        (b"architecture A of E is begin process begin X ( others ;", (1, 55)),
-        (b"architecture A of E is begin process begin X ( A => )", (1, 53)),
-        (b"architecture A of E is begin process begin X := A and B or C", (1, 57)),
-        (b"architecture A of E is begin process begin X := A nand B nand C", (1, 58)),
-        (b"architecture A of E is begin process begin X := A = B = C", (1, 55)),
-        (b"architecture A of E is begin process begin X := + + A", (1, 51)),
-        (b"architecture A of E is begin process begin X := not not A", (1, 53)),
+        (
+            b"architecture A of E is begin process begin X ( others ;",
+            (1, 55),
+        ),
+        (
+            b"architecture A of E is begin process begin X ( A => )",
+            (1, 53),
+        ),
+        (
+            b"architecture A of E is begin process begin X := A and B or C",
+            (1, 57),
+        ),
+        (
+            b"architecture A of E is begin process begin X := A nand B nand C",
+            (1, 58),
+        ),
+        (
+            b"architecture A of E is begin process begin X := A = B = C",
+            (1, 55),
+        ),
+        (
+            b"architecture A of E is begin process begin X := + + A",
+            (1, 51),
+        ),
+        (
+            b"architecture A of E is begin process begin X := not not A",
+            (1, 53),
+        ),
         (b"entity E is", (1, 12)),
         (b"entity E is\n", (2, 1)),
     ];

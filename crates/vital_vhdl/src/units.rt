@@ -16,10 +16,7 @@ use std::alloc::{AllocError, Global};
 
 /// The statements after `begin`, if it is written.
 #[tactic(auto, unfolding(crate::specs::Shapes::entity_statements))]
-fn entity_statements(
-    alloc: Global,
-    cursor: &mut Cursor<'_>,
-) -> Result<Items<Conc>, AllocError>
+fn entity_statements(alloc: Global, cursor: &mut Cursor<'_>) -> Result<Items<Conc>, AllocError>
     ensures { Reads (spec.entity_statements cursor.old) result cursor.new }
 {
     if cursor.choice() == 0 {
@@ -187,10 +184,7 @@ fn file_part(
 
 /// The units of a file, from its derivation and its tokens.
 #[tactic(auto, using(crate::proofs::Turns::runs_out), unfolding(crate::specs::Reading::left))]
-pub(crate) fn file_units(
-    alloc: Global,
-    cursor: &mut Cursor<'_>,
-) -> Result<Vec<Unit>, AllocError>
+pub(crate) fn file_units(alloc: Global, cursor: &mut Cursor<'_>) -> Result<Vec<Unit>, AllocError>
     ensures { IfOk result (λ units. spec.file_units cursor.old ≡ (units.items, cursor.new)) }
 {
     let mut found = Vec::new(alloc);
