@@ -1,5 +1,4 @@
 -- What a cursor has left to read.
-use Rattle.std.specs.Prelude.{◌≡◌}
 use Rattle.vital_vhdl.specs.declared.cursor.Cursor.TheInside.{Inside}
 use Rattle.vital_vhdl.specs.Reading.{Input}
 use Rattle.vital_vhdl.specs.Spots.{IsSpot}

@@ -1,5 +1,5 @@
 -- Interfaces and declarations, by the rules of their grammar.
-use Rattle.std.specs.Prelude.{◌≡◌, ℕ, zero, suc, ◌==◌, nat_lt, ◌&&◌, if◌then◌else◌, List, [], ◌∷◌, map, Option, Some, None}
+use Rattle.std.specs.Prelude.{ℕ, ◌==◌, nat_lt, ◌&&◌, if◌then◌else◌, List, [], ◌∷◌, map, Option, Some, None}
 use Rattle.vital_vhdl.specs.declared.expr.Identifier.{Identifier}
 use Rattle.vital_vhdl.specs.declared.decl.Bounds.{Bounds}
 use Rattle.vital_vhdl.specs.declared.decl.Subtype.{Subtype}
@@ -16,12 +16,9 @@ use Rattle.vital_vhdl.specs.declared.decl.Designator.{Designator}
 use Rattle.vital_vhdl.specs.declared.decl.Designator.TheVariants as designators
 use Rattle.vital_vhdl.specs.declared.decl.EntityClass.{EntityClass}
 use Rattle.vital_vhdl.specs.declared.decl.EntityClass.TheVariants as entity_classes
-use Rattle.vital_vhdl.specs.declared.decl.Specification.{Specification}
-use Rattle.vital_vhdl.specs.declared.decl.Alias.{Alias}
-use Rattle.vital_vhdl.specs.declared.decl.Component.{Component}
 use Rattle.vital_vhdl.specs.declared.decl.Decl.{Decl}
 use Rattle.vital_vhdl.specs.declared.decl.Decl.TheVariants as d
-use Rattle.vital_vhdl.specs.Reading.{Reader, ◌>>=◌, ◌>>◌, pure, choice, skip, place, identifier, identifiers, is_written, closing, after, more_lists}
+use Rattle.vital_vhdl.specs.Reading.{Reader, ◌>>=◌, ◌>>◌, pure, choice, skip, identifier, identifiers, is_written, closing, after, more_lists}
 use Rattle.vital_vhdl.specs.Expressions.{direction, expression, name, optional_value}
 
 -- [ "range" expr dir expr ]

@@ -1,6 +1,6 @@
 -- The units of several files as one library, or its first fault.
-use Rattle.std.specs.Prelude.{◌≡◌, ◌≢◌, ℕ, ◌+◌, ◌<◌, ◌≤◌, Bool, true, false, ◌&&◌, ◌||◌, not, if◌then◌else◌, List, [], ◌∷◌, ◌++◌, length, map, filter, slice_get, Option, Some, None, Contains, All, ◌⊎◌}
-use Rattle.std.specs.List.{list_any, flat_map, filter_map}
+use Rattle.std.specs.Prelude.{◌≡◌, ℕ, ◌+◌, ◌<◌, ◌≤◌, Bool, true, false, ◌&&◌, if◌then◌else◌, List, [], ◌∷◌, ◌++◌, filter, Option, Some, None, Contains, All, ◌⊎◌}
+use Rattle.std.specs.List.{list_any, flat_map}
 use Rattle.std.specs.Str.{bytes_eq}
 use Rattle.vital_vhdl.specs.declared.place.Place.{Place}
 use Rattle.vital_vhdl.specs.declared.expr.Identifier.{Identifier}
@@ -75,3 +75,38 @@ IsBefore p q = (p.file < q.file) ⊎ ((p.file ≡ q.file) × ((p.line < q.line) 
 pub record IsLeastOf (places : List Place) (p : Place) : Type 0 where
   pub among : Contains places p
   pub least : All (IsBefore p) places
+
+-- ---- where the entities and their architectures stand
+
+-- a unit with the number of its file among the files, and its number in it, both from 0
+pub record Standing : Type 0 where
+  pub file : ℕ
+  pub number : ℕ
+  pub unit : Unit'
+
+abbrev pub standing_in : ℕ → ℕ → List Unit' → List Standing
+standing_in file number [] = []
+standing_in file number (w ∷ rest) = record { file = file; number = number; unit = w } ∷ standing_in file (number + 1) rest
+
+abbrev pub standing_from : ℕ → List Units → List Standing
+standing_from file [] = []
+standing_from file (f ∷ rest) = standing_in file 0 f.units ++ standing_from (file + 1) rest
+
+abbrev pub standing : List Units → List Standing
+standing files = standing_from 0 files
+
+abbrev pub is_arch_of : List ℕ → Unit' → Bool
+is_arch_of name (u.Arch a) = bytes_eq a.entity.name name
+is_arch_of name _ = false
+
+abbrev pub is_entity : Unit' → Bool
+is_entity (u.Entity e) = true
+is_entity _ = false
+
+-- the entities, in order
+abbrev pub entities : List Units → List Standing
+entities files = filter (λ s. is_entity s.unit) (standing files)
+
+-- the architectures of the entity of this name, in order
+abbrev pub archs_of : List Units → List ℕ → List Standing
+archs_of files name = filter (λ s. is_arch_of name s.unit) (standing files)

@@ -3,7 +3,6 @@ use Rattle.std.specs.Prelude.{◌≡◌, ℕ, List, length, map, slice_index_or,
 use Rattle.vital_ll.specs.declared.derivation.Step.{Step}
 use Rattle.vital_ll.specs.Sentence.{IsTreeOf, IsRefusedAt}
 use Rattle.vital_lex.specs.Outcome.{IsOutcome}
-use Rattle.vital_lex.specs.declared.faults.TextFault.{TextFault}
 use Rattle.vital_lex.specs.declared.token_list.Token.{Token}
 use Rattle.vital_vhdl.specs.declared.place.Place.{Place}
 use Rattle.vital_vhdl.specs.declared.unit.Role.{Role}

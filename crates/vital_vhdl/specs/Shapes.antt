@@ -1,11 +1,7 @@
 -- The units of a file, by the rules of their grammar; and so the shape of a derivation.
-use Rattle.std.specs.Prelude.{◌≡◌, ℕ, ◌==◌, if◌then◌else◌, List, [], ◌∷◌}
+use Rattle.std.specs.Prelude.{ℕ, ◌==◌, if◌then◌else◌, List, [], ◌∷◌}
 use Rattle.vital_ll.specs.declared.derivation.Step.{Step}
 use Rattle.vital_lex.specs.declared.token_list.Token.{Token}
-use Rattle.vital_vhdl.specs.declared.unit.Entity.{Entity}
-use Rattle.vital_vhdl.specs.declared.unit.Arch.{Arch}
-use Rattle.vital_vhdl.specs.declared.unit.Pack.{Pack}
-use Rattle.vital_vhdl.specs.declared.unit.Config.{Config}
 use Rattle.vital_vhdl.specs.declared.unit.Unit.{Unit as Unit'}
 use Rattle.vital_vhdl.specs.declared.unit.Unit.TheVariants as u
 use Rattle.vital_vhdl.specs.declared.stmt.Conc.{Conc}

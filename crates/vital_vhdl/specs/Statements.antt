@@ -1,5 +1,5 @@
 -- Statements, by the rules of their grammar.
-use Rattle.std.specs.Prelude.{◌≡◌, ℕ, zero, suc, ◌==◌, if◌then◌else◌, List, [], ◌∷◌, Option, Some, None}
+use Rattle.std.specs.Prelude.{ℕ, zero, suc, ◌==◌, if◌then◌else◌, List, [], ◌∷◌, Option, Some, None}
 use Rattle.vital_vhdl.specs.declared.place.Place.{Place}
 use Rattle.vital_vhdl.specs.declared.expr.Identifier.{Identifier}
 use Rattle.vital_vhdl.specs.declared.expr.Item.{Item}

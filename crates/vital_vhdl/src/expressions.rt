@@ -1,49 +1,28 @@
 //! Reading names, expressions and items. What stands in parentheses is read by a parameter, so that each rule is proved by
 //! itself.
 
-ghost use Rattle.std.specs.Prelude.{◌≡◌, [], ◌∷◌, IfOk, length, slice_index};
+ghost use Rattle.std.specs.Prelude.{◌≡◌};
 ghost use Rattle.vital_vhdl.specs.Expressions as spec;
 ghost use Rattle.vital_vhdl.specs.Nesting.{ReadsItems};
-ghost use Rattle.vital_vhdl.specs.Reading.{Reads, after, many, more, separated};
+ghost use Rattle.vital_vhdl.specs.Reading.{Reads, after, many, more};
 
 use crate::cursor::Cursor;
-use crate::expr::{
-    Actual, Adding, Choice, Expr, Item, Multiplying, Physical, Reference, Sign, Suffix,
-};
+use crate::expr::{Actual, Adding, Choice, Expr, Item, Multiplying, Reference, Suffix};
+use crate::nodes::{number, only, product_of, second_byte, sum_of, two};
 use crate::operators::{
     adding_of, direction, logical_of, multiplying_of, relational_of, sign_before,
 };
-use crate::place::Place;
 use sqlite_items::{Boxed, Items};
 use std::alloc::{AllocError, Global};
 use vital_base::Name;
 
 /// Reads what may hold items in parentheses.
 #[derive(Clone, Copy)]
-struct Nested<F> {
-    alloc: Global,
+pub(crate) struct Nested<F> {
+    pub(crate) alloc: Global,
     /// How many levels of parentheses there may be in such items.
-    levels: usize,
-    items: F,
-}
-
-/// A number, and its unit if it has one.
-#[tactic(auto, unfolding(crate::specs::Expressions::number))]
-fn number(alloc: Global, cursor: &mut Cursor<'_>) -> Result<Expr, AllocError>
-    ensures { Reads (spec.number cursor.old) result cursor.new }
-{
-    let place = cursor.place();
-    let number = Name::new(Vec::from_slice(alloc, cursor.spelling())?);
-    if cursor.choice() == 0 {
-        return Ok(Expr::Number(place, number));
-    }
-    let unit = cursor.identifier(alloc)?;
-    let physical = Physical {
-        place,
-        number,
-        unit,
-    };
-    Ok(Expr::Physical(Boxed::new(alloc, physical)?))
+    pub(crate) levels: usize,
+    pub(crate) items: F,
 }
 
 impl<F: Fn(Global, &mut Cursor<'_>, usize) -> Result<Items<Item>, AllocError>> Nested<F> {
@@ -99,7 +78,7 @@ impl<F: Fn(Global, &mut Cursor<'_>, usize) -> Result<Items<Item>, AllocError>> N
     }
 
     #[tactic(auto, using(crate::proofs::Turns::runs_out), unfolding(crate::specs::Reading::left))]
-    fn suffixes(&self, cursor: &mut Cursor<'_>) -> Result<Items<Suffix>, AllocError>
+    pub(crate) fn suffixes(&self, cursor: &mut Cursor<'_>) -> Result<Items<Suffix>, AllocError>
         requires { ReadsItems self.now.levels (F.pre self.now.items) (F.post self.now.items) }
         ensures { Reads (many (spec.suffix (spec.items_within self.now.levels)) cursor.old) result cursor.new }
     {
@@ -115,7 +94,7 @@ impl<F: Fn(Global, &mut Cursor<'_>, usize) -> Result<Items<Item>, AllocError>> N
     }
 
     #[tactic(auto, unfolding(crate::specs::Expressions::reference))]
-    fn reference(&self, cursor: &mut Cursor<'_>) -> Result<Reference, AllocError>
+    pub(crate) fn reference(&self, cursor: &mut Cursor<'_>) -> Result<Reference, AllocError>
         requires { ReadsItems self.now.levels (F.pre self.now.items) (F.post self.now.items) }
         ensures { Reads (spec.reference (spec.items_within self.now.levels) cursor.old) result cursor.new }
     {
@@ -322,7 +301,7 @@ impl<F: Fn(Global, &mut Cursor<'_>, usize) -> Result<Items<Item>, AllocError>> N
     }
 
     #[tactic(auto, unfolding(crate::specs::Expressions::expr))]
-    fn expr(&self, cursor: &mut Cursor<'_>) -> Result<Expr, AllocError>
+    pub(crate) fn expr(&self, cursor: &mut Cursor<'_>) -> Result<Expr, AllocError>
         requires { ReadsItems self.now.levels (F.pre self.now.items) (F.post self.now.items) }
         ensures { Reads (spec.expr (spec.items_within self.now.levels) cursor.old) result cursor.new }
     {
@@ -447,69 +426,8 @@ impl<F: Fn(Global, &mut Cursor<'_>, usize) -> Result<Items<Item>, AllocError>> N
     }
 }
 
-fn second_byte(bytes: &[u8]) -> u8
-    ensures { result ≡ slice_index bytes.now 1 }
-{
-    match bytes {
-        [_, byte, ..] => *byte,
-        _ => 0,
-    }
-}
-
-/// The list of two operands.
-fn two(alloc: Global, first: Expr, second: Expr) -> Result<Items<Expr>, AllocError>
-    ensures { IfOk result (λ all. all ≡ first ∷ second ∷ []) }
-{
-    let mut all = Items::new(alloc);
-    all.push(first)?;
-    all.push(second)?;
-    Ok(all)
-}
-
-/// The list of one node.
-pub(crate) fn only<T: Drop>(alloc: Global, node: T) -> Result<Items<T>, AllocError>
-    ensures { IfOk result (λ all. all ≡ node ∷ []) }
-{
-    let mut all = Items::new(alloc);
-    all.push(node)?;
-    Ok(all)
-}
-
-/// A product, or its first factor if it has no other.
-#[tactic(auto, unfolding(crate::specs::Expressions::product_of))]
-fn product_of(
-    alloc: Global,
-    place: Place,
-    first: Expr,
-    others: Items<(Multiplying, Expr)>,
-) -> Result<Expr, AllocError>
-    ensures { IfOk result (λ e. e ≡ spec.product_of place first others) }
-{
-    if others.is_empty() {
-        return Ok(first);
-    }
-    Ok(Expr::Product(place, Boxed::new(alloc, first)?, others))
-}
-
-/// A sum, or its first term if it has no sign and no other term.
-#[tactic(auto, unfolding(crate::specs::Expressions::sum_of))]
-fn sum_of(
-    alloc: Global,
-    place: Place,
-    sign: Option<Sign>,
-    first: Expr,
-    others: Items<(Adding, Expr)>,
-) -> Result<Expr, AllocError>
-    ensures { IfOk result (λ e. e ≡ spec.sum_of place sign first others) }
-{
-    if sign.is_none() && others.is_empty() {
-        return Ok(first);
-    }
-    Ok(Expr::Sum(place, sign, Boxed::new(alloc, first)?, others))
-}
-
 /// Items with so many levels of parentheses in them, or fewer.
-fn items_within(
+pub(crate) fn items_within(
     alloc: Global,
     cursor: &mut Cursor<'_>,
     levels: usize,
@@ -525,104 +443,4 @@ fn items_within(
         items: items_within,
     }
     .item_list(cursor)
-}
-
-/// Items that stand in no parentheses but those around them.
-pub(crate) fn items(alloc: Global, cursor: &mut Cursor<'_>) -> Result<Items<Item>, AllocError>
-    ensures { Reads (spec.items cursor.old) result cursor.new }
-{
-    let levels = cursor.left();
-    items_within(alloc, cursor, levels)
-}
-
-/// An expression that stands in no parentheses.
-pub(crate) fn expression(alloc: Global, cursor: &mut Cursor<'_>) -> Result<Expr, AllocError>
-    ensures { Reads (spec.expression cursor.old) result cursor.new }
-{
-    let levels = cursor.left();
-    Nested {
-        alloc,
-        levels,
-        items: items_within,
-    }
-    .expr(cursor)
-}
-
-/// A name that stands in no parentheses.
-pub(crate) fn name(alloc: Global, cursor: &mut Cursor<'_>) -> Result<Reference, AllocError>
-    ensures { Reads (spec.name cursor.old) result cursor.new }
-{
-    let levels = cursor.left();
-    Nested {
-        alloc,
-        levels,
-        items: items_within,
-    }
-    .reference(cursor)
-}
-
-/// What follows the identifier of a name that stands in no parentheses.
-pub(crate) fn suffix_list(
-    alloc: Global,
-    cursor: &mut Cursor<'_>,
-) -> Result<Items<Suffix>, AllocError>
-    ensures { Reads (spec.suffix_list cursor.old) result cursor.new }
-{
-    let levels = cursor.left();
-    Nested {
-        alloc,
-        levels,
-        items: items_within,
-    }
-    .suffixes(cursor)
-}
-
-fn next_name(alloc: Global, cursor: &mut Cursor<'_>) -> Result<Reference, AllocError>
-    ensures { Reads (after spec.name cursor.old) result cursor.new }
-{
-    cursor.skip();
-    name(alloc, cursor)
-}
-
-#[tactic(auto, using(crate::proofs::Turns::runs_out), unfolding(crate::specs::Reading::left))]
-fn more_names(
-    alloc: Global,
-    cursor: &mut Cursor<'_>,
-    mut found: Items<Reference>,
-) -> Result<Items<Reference>, AllocError>
-    ensures { Reads (more (λ _. after spec.name) found cursor.old) result cursor.new }
-{
-    for _turn in 0..cursor.left() {
-        let alternative = cursor.choice();
-        if alternative == 0 {
-            return Ok(found);
-        }
-        found.push(next_name(alloc, cursor)?)?;
-    }
-    Ok(found)
-}
-
-/// One name or more, parted by commas.
-#[tactic(auto, unfolding(crate::specs::Expressions::names))]
-pub(crate) fn names(alloc: Global, cursor: &mut Cursor<'_>) -> Result<Items<Reference>, AllocError>
-    ensures { Reads (spec.names cursor.old) result cursor.new }
-{
-    let first = name(alloc, cursor)?;
-    let found = only(alloc, first)?;
-    more_names(alloc, cursor, found)
-}
-
-/// A default or a delay behind its word, if it is written.
-#[tactic(auto, unfolding(crate::specs::Expressions::optional_value))]
-pub(crate) fn optional_value(
-    alloc: Global,
-    cursor: &mut Cursor<'_>,
-) -> Result<Option<Expr>, AllocError>
-    ensures { Reads (spec.optional_value cursor.old) result cursor.new }
-{
-    if cursor.choice() == 0 {
-        return Ok(None);
-    }
-    cursor.skip();
-    Ok(Some(expression(alloc, cursor)?))
 }

@@ -7,7 +7,8 @@ ghost use Rattle.vital_vhdl.specs.Statements as spec;
 
 use crate::cursor::Cursor;
 use crate::expr::Reference;
-use crate::expressions::{expression, name, only, optional_value};
+use crate::nodes::only;
+use crate::outermost::{expression, name, optional_value};
 use crate::place::Place;
 use crate::stmt::{Assignment, Branch, Stmt};
 use sqlite_items::Items;

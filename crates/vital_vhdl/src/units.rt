@@ -6,9 +6,10 @@ ghost use Rattle.vital_vhdl.specs.Shapes as spec;
 
 use crate::concs::concs;
 use crate::cursor::Cursor;
-use crate::declarations::{declarations, interfaces};
-use crate::expressions::names;
+use crate::declarations::declarations;
 use crate::identifiers::{closing, identifiers, is_written};
+use crate::interfaces::interfaces;
+use crate::outermost::names;
 use crate::stmt::Conc;
 use crate::unit::{Arch, Config, Entity, Pack, Unit};
 use sqlite_items::Items;

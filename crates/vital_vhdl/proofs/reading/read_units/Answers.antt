@@ -1,4 +1,4 @@
-use Rattle.std.proofs.Common.{◌≡◌, List, Ok, Err, sym, subst}
+use Rattle.std.proofs.Common.{List, Ok, sym, subst}
 use Rattle.vital_ll.specs.Refusal.{IsRefusal}
 use Rattle.vital_ll.specs.declared.reading.ParseError.TheVariants as parse
 use Rattle.vital_lex.specs.declared.token_list.Token.{Token}

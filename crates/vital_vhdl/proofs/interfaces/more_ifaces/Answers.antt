@@ -1,5 +1,5 @@
 use Rattle.vital_vhdl.proofs.Turns.{ends, appends}
-use Rattle.vital_vhdl.proofs.declarations.more_ifaces.Goals as goal
+use Rattle.vital_vhdl.proofs.interfaces.more_ifaces.Goals as goal
 
 pub returns-then-alternative-eq0 : goal.returns-then-alternative-eq0
 returns-then-alternative-eq0 c = ends c.loop-turn.invariant c.loop-turn-test.true c.choice-alternative.ensures c.if-alternative-eq0.true

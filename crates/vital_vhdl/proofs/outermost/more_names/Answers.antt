@@ -1,5 +1,5 @@
 use Rattle.vital_vhdl.proofs.Turns.{ends, goes_on}
-use Rattle.vital_vhdl.proofs.expressions.more_names.Goals as goal
+use Rattle.vital_vhdl.proofs.outermost.more_names.Goals as goal
 
 pub returns-then-alternative-eq0 : goal.returns-then-alternative-eq0
 returns-then-alternative-eq0 c = ends c.loop-turn.invariant c.loop-turn-test.true c.choice-alternative.ensures c.if-alternative-eq0.true
