@@ -10,6 +10,7 @@ mod expressions;
 mod grammar;
 mod identifiers;
 mod interfaces;
+mod items;
 mod nodes;
 mod operators;
 mod outermost;

@@ -6,7 +6,8 @@ ghost use Rattle.vital_vhdl.specs.Reading.{Reads, after, more};
 
 use crate::cursor::Cursor;
 use crate::expr::{Expr, Item, Reference, Suffix};
-use crate::expressions::{Nested, items_within};
+use crate::expressions::Nested;
+use crate::items::items_within;
 use crate::nodes::only;
 use sqlite_items::Items;
 use std::alloc::{AllocError, Global};

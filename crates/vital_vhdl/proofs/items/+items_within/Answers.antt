@@ -2,7 +2,7 @@ use Rattle.std.proofs.Common.{◌≡◌, ℕ, List, ap, sym, ◌∙◌, arith}
 use Rattle.vital_vhdl.specs.declared.expr.Item.{Item}
 use Rattle.vital_vhdl.specs.Expressions.{items_within}
 use Rattle.vital_vhdl.proofs.Turns.{deeper}
-use Rattle.vital_vhdl.proofs.expressions.+items_within.Goals as goal
+use Rattle.vital_vhdl.proofs.items.+items_within.Goals as goal
 
 pub returns-then-levels-eq0 : goal.returns-then-levels-eq0
 unfolding items_within
