@@ -1,0 +1,82 @@
+-- A file has one outcome: what a text's tokens and their derivation determine.
+use Rattle.std.proofs.Common.{◌≡◌, ℕ, List, length, Result, Ok, Err, sym, ap, subst, ◌∙◌, arith, inl, inr}
+use Rattle.std.proofs.lemmas.Bool.{cases_lt}
+use Rattle.vital_ll.specs.declared.derivation.Step.{Step}
+use Rattle.vital_ll.specs.Grammar.{Grammar}
+use Rattle.vital_ll.specs.Sentence.{IsTreeOf, IsRefusedAt}
+use Rattle.vital_lex.specs.Outcome.{IsOutcome, Gives}
+use Rattle.vital_lex.specs.declared.faults.LexError.{LexError}
+use Rattle.vital_lex.specs.declared.faults.LexError.TheVariants as lex
+use Rattle.vital_lex.specs.declared.faults.TextFault.{TextFault}
+use Rattle.vital_lex.specs.declared.token_list.Token.{Token}
+use Rattle.vital_vhdl.specs.declared.place.Place.{Place}
+use Rattle.vital_vhdl.specs.declared.unit.Role.{Role}
+use Rattle.vital_vhdl.specs.declared.unit.Units.{Units}
+use Rattle.vital_vhdl.specs.declared.reading.UnitError.{UnitError}
+use Rattle.vital_vhdl.specs.declared.reading.UnitError.TheVariants as error
+use Rattle.vital_vhdl.specs.Grammar.{grammar}
+use Rattle.vital_vhdl.specs.Reading.{place_at}
+use Rattle.vital_vhdl.specs.Shapes.{shape}
+use Rattle.vital_vhdl.specs.Outcomes.{kinds_of, offset_of, IsReading}
+
+abbrev Lexed : Type 0
+Lexed = Result (List Token) TextFault
+
+-- this is what comes of lexing the text
+abbrev pub OnlyLexed : List ℕ → ℕ → Lexed → Type 0
+OnlyLexed text room lexed = (o : Lexed) → IsOutcome text room o → o ≡ lexed
+
+-- what a lexer's error says
+pub fault_only : (text : List ℕ) (room : ℕ) (e : LexError) (fault : TextFault) → e ≡ lex.Text fault → ((o : Lexed) → IsOutcome text room o → Gives (Err e) o)
+    → OnlyLexed text room (Err fault)
+fault_only text room e fault is only = subst (λ (x : LexError). (o : Lexed) → IsOutcome text room o → Gives (Err x) o) is only
+
+one_refusal : (g : Grammar) (kinds : List ℕ) (j k : ℕ) → IsRefusedAt g kinds j → IsRefusedAt g kinds k → j ≡ k
+one_refusal g kinds j k p q =
+    elim (cases_lt j k) [
+      | inl lt ↦ absurd (p.refused (q.least j lt))
+      | inr le ↦ elim (cases_lt k j) [
+        | inl lt ↦ absurd (q.refused (p.least k lt))
+        | inr ge ↦ omega arith
+      ]
+    ]
+
+-- the text has a fault
+pub only_fault : (file : ℕ) (role : Role) (text : List ℕ) (room : ℕ) (fault : TextFault) → OnlyLexed text room (Err fault)
+    → (outcome : Result Units UnitError) → IsReading file role text room outcome → outcome ≡ Err (error.Lex fault)
+only_fault file role text room fault only (Ok read) h = let e = only (Ok h.tokens) h.lexed in absurd cc
+only_fault file role text room fault only (Err (error.Lex f)) h =
+    let e : f ≡ fault = (let e = only (Err f) h in cc) in ap (λ (x : TextFault). Err (error.Lex x)) e
+only_fault file role text room fault only (Err (error.Refused place)) h = let e = only (Ok h.tokens) h.lexed in absurd cc
+only_fault file role text room fault only (Err error.NoMemory) h = absurd h
+
+-- the grammar refuses token k
+pub only_refusal : (file : ℕ) (role : Role) (text : List ℕ) (room : ℕ) (tokens : List Token) (k : ℕ) → OnlyLexed text room (Ok tokens)
+    → ((tree : List Step) → IsTreeOf grammar (kinds_of tokens) tree → ⊥) → IsRefusedAt grammar (kinds_of tokens) k
+    → (outcome : Result Units UnitError) → IsReading file role text room outcome → outcome ≡ Err (error.Refused (place_at file text (offset_of text tokens k)))
+only_refusal file role text room tokens k only none first (Ok read) h =
+    let same : h.tokens ≡ tokens = (let e = only (Ok h.tokens) h.lexed in cc) in
+    absurd (none h.tree (subst (λ (ts : List Token). IsTreeOf grammar (kinds_of ts) h.tree) same h.derived))
+only_refusal file role text room tokens k only none first (Err (error.Lex f)) h = let e = only (Err f) h in absurd cc
+only_refusal file role text room tokens k only none first (Err (error.Refused place)) h =
+    let same : h.tokens ≡ tokens = (let e = only (Ok h.tokens) h.lexed in cc) in
+    let number : h.refused.token ≡ k = one_refusal grammar (kinds_of tokens) h.refused.token k (subst (λ (ts : List Token). IsRefusedAt grammar (kinds_of ts) h.refused.token) same h.refused.first) first in
+    ap (λ (p : Place). Err (error.Refused p))
+    (h.refused.place_is ∙ ap (λ (ts : List Token). place_at file text (offset_of text ts h.refused.token)) same ∙ ap (λ (n : ℕ). place_at file text (offset_of text tokens n)) number)
+only_refusal file role text room tokens k only none first (Err error.NoMemory) h = absurd h
+
+-- there is a derivation
+pub only_units : (file : ℕ) (role : Role) (text : List ℕ) (room : ℕ) (tokens : List Token) (tree : List Step) → OnlyLexed text room (Ok tokens)
+    → IsTreeOf grammar (kinds_of tokens) tree → ((other : List Step) → IsTreeOf grammar (kinds_of tokens) other → other ≡ tree)
+    → (outcome : Result Units UnitError) → IsReading file role text room outcome
+    → outcome ≡ Ok (record { role = role; units = shape file text tokens tree; tokens = length tokens })
+only_units file role text room tokens tree only derived one (Ok read) h =
+    let same : h.tokens ≡ tokens = (let e = only (Ok h.tokens) h.lexed in cc) in
+    let same_tree : h.tree ≡ tree = one h.tree (subst (λ (ts : List Token). IsTreeOf grammar (kinds_of ts) h.tree) same h.derived) in
+    let made : List Token → List Step → Units = λ ts steps. record { role = role; units = shape file text ts steps; tokens = length ts } in
+    ap (λ (x : Units). Ok x) (h.units_are ∙ ap (λ (ts : List Token). made ts h.tree) same ∙ ap (λ (steps : List Step). made tokens steps) same_tree)
+only_units file role text room tokens tree only derived one (Err (error.Lex f)) h = let e = only (Err f) h in absurd cc
+only_units file role text room tokens tree only derived one (Err (error.Refused place)) h =
+    let same : h.tokens ≡ tokens = (let e = only (Ok h.tokens) h.lexed in cc) in
+    absurd (h.refused.no_tree tree (subst (λ (ts : List Token). IsTreeOf grammar (kinds_of ts) tree) (sym same) derived))
+only_units file role text room tokens tree only derived one (Err error.NoMemory) h = absurd h

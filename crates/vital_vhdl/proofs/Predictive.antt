@@ -1,0 +1,26 @@
+-- The two tables of the grammar, evaluated.
+use Rattle.std.proofs.Common.{refl}
+use Rattle.std.specs.Prelude.{IsTrue}
+use Rattle.vital_ll.specs.Masks.{are_closed, decides}
+use Rattle.vital_ll.specs.Ranks.{are_ranked}
+use Rattle.vital_vhdl.specs.DeclarationRules.{declaration_rules}
+use Rattle.vital_vhdl.specs.ExpressionRules.{expression_rules}
+use Rattle.vital_vhdl.specs.Grammar.{grammar}
+use Rattle.vital_vhdl.specs.StatementRules.{statement_rules}
+use Rattle.vital_vhdl.specs.UnitRules.{unit_rules}
+use Rattle.vital_vhdl.specs.Tables.{masks, ranks}
+
+-- the masks are closed under the rules
+pub masks_closed : IsTrue (are_closed grammar masks)
+unfolding unit_rules declaration_rules statement_rules expression_rules
+masks_closed = refl
+
+-- the masks of the alternatives of each rule do not meet
+pub masks_apart : IsTrue (decides grammar masks)
+unfolding unit_rules declaration_rules statement_rules expression_rules
+masks_apart = refl
+
+-- each rule has an alternative that names rules of lower rank alone
+pub ranks_lower : IsTrue (are_ranked grammar ranks)
+unfolding unit_rules declaration_rules statement_rules expression_rules
+ranks_lower = refl

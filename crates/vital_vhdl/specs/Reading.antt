@@ -1,0 +1,167 @@
+-- What shapes are read from: the steps of a file's derivation, each with the alternative that was chosen, and its tokens. A
+-- reader takes from the fronts of both and answers a part of a shape. Where nothing is left, the next alternative is 0, and
+-- the next token is an empty one at the beginning of the file.
+use Rattle.std.specs.Prelude.{◌≡◌, ℕ, zero, suc, ◌==◌, Bool, true, false, if◌then◌else◌, List, [], ◌∷◌, ◌++◌, length, drop, map, slice_range, Result, Ok, Err}
+use Rattle.vital_ll.specs.declared.derivation.Step.{Step}
+use Rattle.vital_lex.specs.declared.token_list.Token.{Token}
+use Rattle.vital_lex.specs.Bytes.{lower_case}
+use Rattle.vital_lex.specs.Places.{line_of, column_of}
+use Rattle.std.specs.declared.alloc.AllocError.{AllocError}
+use Rattle.vital_vhdl.specs.declared.place.Place.{Place}
+use Rattle.vital_vhdl.specs.declared.expr.Identifier.{Identifier}
+
+pub record Input : Type 0 where
+  -- the steps of the derivation from the next one on
+  pub steps : List Step
+  -- the tokens from the next one on
+  pub tokens : List Token
+  -- the text of the file, and its number
+  pub text : List ℕ
+  pub file : ℕ
+
+abbrev pub Reader : Type 0 → Type 0
+Reader A = Input → A × Input
+
+infixl 10 ◌>>=◌
+abbrev pub ◌>>=◌ : {A B : Type 0} → Reader A → (A → Reader B) → Reader B
+p >>= f = λ i. f (p i).0 (p i).1
+
+infixl 10 ◌>>◌
+abbrev pub ◌>>◌ : {A B : Type 0} → Reader A → Reader B → Reader B
+p >> q = λ i. q (p i).1
+
+abbrev pub pure : {A : Type 0} → A → Reader A
+pure a = λ i. (a, i)
+
+-- ---- steps
+
+abbrev pub first_alternative : List Step → ℕ
+first_alternative [] = 0
+first_alternative (s ∷ steps) = s.alternative
+
+-- the alternative that the next step chose
+unfoldable pub alternative : Input → ℕ
+alternative i = first_alternative i.steps
+
+unfoldable pub past_step : Input → Input
+past_step i = record i { steps = drop 1 i.steps }
+
+abbrev pub choice : Reader ℕ
+choice = λ i. (alternative i, past_step i)
+
+-- how many steps are left
+unfoldable pub left : Input → ℕ
+left i = length i.steps
+
+-- ---- tokens
+
+abbrev pub no_token : Token
+no_token = record { kind = 0; start = 0; end = 0 }
+
+abbrev pub first_token : List Token → Token
+first_token [] = no_token
+first_token (t ∷ tokens) = t
+
+unfoldable pub next_token : Input → Token
+next_token i = first_token i.tokens
+
+unfoldable pub past_token : Input → Input
+past_token i = record i { tokens = drop 1 i.tokens }
+
+-- passes over a token
+abbrev pub skip : Reader (Unit {0})
+skip = λ i. (tt, past_token i)
+
+unfoldable pub place_at : ℕ → List ℕ → ℕ → Place
+place_at file text offset = record { file = file; line = line_of text offset; column = column_of text offset }
+
+-- the place of the next token
+unfoldable pub next_place : Input → Place
+next_place i = place_at i.file i.text (next_token i).start
+
+abbrev pub place : Reader Place
+place = λ i. (next_place i, i)
+
+-- the bytes of the next token
+unfoldable pub next_spelling : Input → List ℕ
+next_spelling i = slice_range i.text (next_token i).start (next_token i).end
+
+-- takes a token for its bytes
+abbrev pub spelling : Reader (List ℕ)
+spelling = λ i. (next_spelling i, past_token i)
+
+-- ---- identifiers
+
+-- The first alternative is a basic identifier, in which capitals count for nothing.
+unfoldable pub folded : ℕ → List ℕ → List ℕ
+folded zero bytes = map lower_case bytes
+folded (suc n) bytes = bytes
+
+abbrev pub named : Place → List ℕ → Identifier
+named p bytes = record { place = p; name = bytes }
+
+unfoldable pub identifier : Reader Identifier
+identifier = do
+  form ← choice
+  at ← place
+  bytes ← spelling
+  pure (named at (folded form bytes))
+
+-- ---- what a function that reads ensures: what the reader gives, unless memory runs out
+
+abbrev pub Reads : {A : Type 0} → A × Input → Result A AllocError → Input → Type 0
+Reads read (Ok a) new = read ≡ (a, new)
+Reads read (Err e) new = Unit {0}
+
+-- ---- options
+
+-- [ word ]: whether it is written
+unfoldable pub is_written : Reader Bool
+is_written = do
+  c ← choice
+  if c == 0 then pure false else skip >> pure true
+
+-- [ id ] at the end of a construct, which is not compared
+unfoldable pub closing : Reader (Unit {0})
+closing = do
+  c ← choice
+  if c == 0 then pure tt else choice >> skip
+
+-- ---- lists. Each turn takes a step, whose first alternative ends the list; so the number of steps left bounds the turns.
+
+unfoldable pub lists_from : {A : Type 0} → (ℕ → Reader (List A)) → ℕ → List A → Reader (List A)
+lists_from item zero found = pure found
+lists_from item (suc turns) found = do
+  c ← choice
+  if c == 0 then pure found else (do xs ← item c; lists_from item turns (found ++ xs))
+
+-- after those that were found, those that each further alternative gives
+abbrev pub more_lists : {A : Type 0} → (ℕ → Reader (List A)) → List A → Reader (List A)
+more_lists item found = λ i. lists_from item (left i) found i
+
+abbrev pub alone : {A : Type 0} → (ℕ → Reader A) → ℕ → Reader (List A)
+alone item c = item c >>= λ x. pure (x ∷ [])
+
+-- after those that were found, the one that each further alternative gives
+abbrev pub more : {A : Type 0} → (ℕ → Reader A) → List A → Reader (List A)
+more item found = more_lists (alone item) found
+
+abbrev pub many : {A : Type 0} → (ℕ → Reader A) → Reader (List A)
+many item = more item []
+
+-- what stands after a token
+abbrev pub after : {A : Type 0} → Reader A → Reader A
+after item = skip >> item
+
+-- one, and any number more, each after a token that parts them
+abbrev pub separated : {A : Type 0} → Reader A → Reader (List A)
+separated item = item >>= λ x. more (λ _. after item) (x ∷ [])
+
+-- id { "," id }
+unfoldable pub identifiers : Reader (List Identifier)
+identifiers = separated identifier
+
+-- the same of a function that adds what it reads to a list
+abbrev pub Appends : {A : Type 0} → List A × Input → Result (Unit {0}) AllocError → List A → List A → Input → Type 0
+Appends read (Ok u) old new next = (new ≡ old ++ read.0) × (next ≡ read.1)
+Appends read (Err e) old new next = Unit {0}

@@ -1,0 +1,166 @@
+//! A cursor over the derivation and the tokens of a file.
+
+ghost use Rattle.std.specs.Prelude.{◌≡◌, ◌≤◌, length, IfOk};
+ghost use Rattle.vital_lex.specs.Bytes.{lower_case};
+ghost use Rattle.vital_vhdl.specs.Reading as spec;
+ghost use Rattle.vital_vhdl.specs.Reading.{Reads};
+
+use crate::expr::Identifier;
+use crate::place::Place;
+use crate::spot::Spot;
+use std::alloc::{AllocError, Global};
+use std::marker::Model;
+use vital_base::Name;
+use vital_lex::Token;
+use vital_ll::Step;
+
+/// What is left to read of a file: contracts see the steps and the tokens from the next ones on, and the text and the number
+/// of the file.
+#[derive(Drop)]
+pub(crate) struct Cursor<'a> {
+    steps: &'a [Step],
+    tokens: &'a [Token],
+    text: &'a [u8],
+    file: u32,
+    /// The spot whose place was asked for last.
+    spot: Spot,
+}
+
+impl<'a> Model for Cursor<'a> {
+    ghost use Rattle.vital_vhdl.specs.Reading.{Input};
+
+    ghost Value = { Input };
+
+    ghost use Rattle.vital_vhdl.specs.Cursors.{input_of, IsReady};
+
+    ghost view = { input_of };
+
+    ghost invariant = { IsReady };
+}
+
+impl<'a> Cursor<'a> {
+    /// The cursor at the beginning of a file.
+    pub(crate) fn new(
+        file: u32,
+        text: &'a [u8],
+        tokens: &'a [Token],
+        steps: &'a [Step],
+    ) -> Cursor<'a>
+        requires { length text.now ≤ 16777216 }
+        ensures { result ≡ record { steps = steps.now; tokens = tokens.now; text = text.now; file = file } }
+    {
+        Cursor {
+            steps,
+            tokens,
+            text,
+            file,
+            spot: Spot::start(text),
+        }
+    }
+
+    /// How many steps are left.
+    #[tactic(auto, unfolding(crate::specs::Reading::left))]
+    pub(crate) fn left(&self) -> usize
+        ensures { result ≡ spec.left self.now }
+    {
+        self.steps.len()
+    }
+
+    /// Takes a step, and says which alternative it chose.
+    #[tactic(auto, unfolding(crate::specs::Reading::alternative, crate::specs::Reading::past_step))]
+    pub(crate) fn choice(&mut self) -> u16
+        ensures { spec.choice self.old ≡ (result, self.new) }
+    {
+        match self.steps {
+            [] => 0,
+            [step, rest @ ..] => {
+                self.steps = rest;
+                step.alternative
+            }
+        }
+    }
+
+    /// Passes over a token.
+    #[tactic(auto, unfolding(crate::specs::Reading::past_token))]
+    pub(crate) fn skip(&mut self)
+        ensures { spec.skip self.old ≡ (tt, self.new) }
+    {
+        if let [_, rest @ ..] = self.tokens {
+            self.tokens = rest;
+        }
+    }
+
+    #[tactic(auto, unfolding(crate::specs::Reading::next_token))]
+    fn token(&self) -> Token
+        ensures { result ≡ spec.next_token self.now }
+    {
+        match self.tokens {
+            [] => Token {
+                kind: 0,
+                start: 0,
+                end: 0,
+            },
+            [token, ..] => *token,
+        }
+    }
+
+    /// The place of the next token.
+    #[tactic(auto, unfolding(crate::specs::Reading::next_place, crate::specs::Reading::place_at))]
+    pub(crate) fn place(&mut self) -> Place
+        ensures { spec.place self.old ≡ (result, self.new) }
+    {
+        let offset = self.token().start;
+        self.spot = self.spot.seek(self.text, offset);
+        Place {
+            file: self.file,
+            line: self.spot.line,
+            column: self.spot.column,
+        }
+    }
+
+    /// Takes a token for its bytes.
+    #[tactic(auto, unfolding(crate::specs::Reading::next_spelling, crate::specs::Reading::past_token))]
+    pub(crate) fn spelling(&mut self) -> &'a [u8]
+        ensures { spec.spelling self.old ≡ (result.now, self.new) }
+    {
+        let token = self.token();
+        self.skip();
+        let end = (token.end as usize).min(self.text.len());
+        let start = (token.start as usize).min(end);
+        &self.text[start..end]
+    }
+
+    /// Takes an identifier.
+    #[tactic(auto, unfolding(crate::specs::Reading::identifier))]
+    pub(crate) fn identifier(&mut self, alloc: Global) -> Result<Identifier, AllocError>
+        ensures { Reads (spec.identifier self.old) result self.new }
+    {
+        let form = self.choice();
+        let place = self.place();
+        let name = folded(alloc, form, self.spelling())?;
+        Ok(Identifier { place, name })
+    }
+}
+
+/// The lower case of a letter, and every other byte as it is.
+fn lower_case(byte: u8) -> u8
+    ensures { result ≡ lower_case byte }
+{
+    if byte.is_ascii_uppercase() {
+        byte + 32
+    } else {
+        byte
+    }
+}
+
+/// The name of an identifier with these bytes. Its form is 0 for a basic one, whose capitals count for nothing.
+#[tactic(auto, unfolding(crate::specs::Reading::folded))]
+fn folded(alloc: Global, form: u16, bytes: &[u8]) -> Result<Name, AllocError>
+    ensures { IfOk result (λ name. name ≡ spec.folded form bytes.now) }
+{
+    if form != 0 {
+        return Ok(Name::new(Vec::from_slice(alloc, bytes)?));
+    }
+    let name: Vec<u8> = bytes.iter().map(|byte| lower_case(*byte)).collect(alloc)?;
+    Ok(Name::new(name))
+}

@@ -1,0 +1,161 @@
+//! Expressions, names and associations (IEEE 1076-1993, clauses 6 and 7). Each node has the place of its first token.
+
+use crate::place::Place;
+use sqlite_items::{Boxed, Items};
+use vital_base::Name;
+
+/// An identifier where it stands: folded to lower case if it is a basic one, and as it stands if it is an extended one
+/// (IEEE 1076-1993, 13.3).
+#[derive(Debug, Drop)]
+pub struct Identifier {
+    pub place: Place,
+    pub name: Name,
+}
+
+/// A logical operator between relations (IEEE 1076-1993, 7.2.1).
+#[derive(Clone, Copy, Debug, PartialEq, Eq)]
+pub enum Logical {
+    And,
+    Or,
+    Xor,
+    Xnor,
+    Nand,
+    Nor,
+}
+
+/// A relational operator (IEEE 1076-1993, 7.2.2).
+#[derive(Clone, Copy, Debug, PartialEq, Eq)]
+pub enum Relational {
+    Equal,
+    NotEqual,
+    Less,
+    LessOrEqual,
+    Greater,
+    GreaterOrEqual,
+}
+
+/// A sign before the first term of a sum (IEEE 1076-1993, 7.2.5).
+#[derive(Clone, Copy, Debug, PartialEq, Eq)]
+pub enum Sign {
+    Plus,
+    Minus,
+}
+
+/// An operator between the terms of a sum (IEEE 1076-1993, 7.2.4).
+#[derive(Clone, Copy, Debug, PartialEq, Eq)]
+pub enum Adding {
+    Add,
+    Subtract,
+    Concatenate,
+}
+
+/// An operator between the factors of a term (IEEE 1076-1993, 7.2.6).
+#[derive(Clone, Copy, Debug, PartialEq, Eq)]
+pub enum Multiplying {
+    Multiply,
+    Divide,
+}
+
+/// The direction of a range (IEEE 1076-1993, 3.1).
+#[derive(Clone, Copy, Debug, PartialEq, Eq)]
+pub enum Direction {
+    To,
+    Downto,
+}
+
+/// A number before a unit, as `0.100 ns`.
+#[derive(Debug, Drop)]
+pub struct Physical {
+    pub place: Place,
+    /// The number as it stands.
+    pub number: Name,
+    pub unit: Identifier,
+}
+
+/// An expression. A chain of operators of one level is one node, so that an expression is nested no deeper than its
+/// parentheses, but for the levels of operators between them.
+#[cycle(expr)]
+#[derive(Drop)]
+pub enum Expr {
+    /// Two or more relations with one logical operator between them.
+    Logical(Place, Logical, Items<Expr>),
+    /// Two sums and the relational operator between them.
+    Relation(Place, Relational, Boxed<Expr>, Boxed<Expr>),
+    /// A sign, if there is one, the first term, and the other terms, each after its operator.
+    Sum(Place, Option<Sign>, Boxed<Expr>, Items<(Adding, Expr)>),
+    /// The first factor, and the other factors, each after its operator.
+    Product(Place, Boxed<Expr>, Items<(Multiplying, Expr)>),
+    /// `not`, and what it stands before.
+    Not(Place, Boxed<Expr>),
+    /// A number with no unit, as it stands.
+    Number(Place, Name),
+    /// A number and its unit.
+    Physical(Boxed<Physical>),
+    /// The byte between the apostrophes.
+    Character(Place, u8),
+    /// A string literal as it stands, with its quotation marks.
+    StringLiteral(Place, Name),
+    /// A name.
+    Reference(Boxed<Reference>),
+    /// Items in parentheses.
+    Parenthesized(Place, Items<Item>),
+}
+
+/// A name: an identifier, and what follows it (IEEE 1076-1993, clause 6).
+#[cycle(expr)]
+#[derive(Drop)]
+pub struct Reference {
+    /// The place of the identifier.
+    pub place: Place,
+    /// The identifier.
+    pub name: Name,
+    pub suffixes: Items<Suffix>,
+}
+
+/// A part of a name after its identifier.
+#[cycle(expr)]
+#[derive(Drop)]
+pub enum Suffix {
+    /// `.` and an identifier.
+    Selected(Identifier),
+    /// `.all`, with the place of `all`.
+    All(Place),
+    /// A tick and an identifier.
+    Attribute(Identifier),
+    /// A tick and items in parentheses.
+    Qualified(Items<Item>),
+    /// Items in parentheses: the actuals of a call, an index or a slice.
+    Items(Items<Item>),
+}
+
+/// An item of a list in parentheses: an association, an element of an aggregate, an index or a slice.
+#[cycle(expr)]
+#[derive(Drop)]
+pub enum Item {
+    /// `others`, at its place, and its value.
+    Others(Place, Boxed<Expr>),
+    /// `open`, at its place.
+    Open(Place),
+    /// A value or a range by position.
+    Positional(Choice),
+    /// A formal or a choice, and its actual or value.
+    Named(Boxed<Choice>, Boxed<Actual>),
+}
+
+/// A value or a range.
+#[cycle(expr)]
+#[derive(Drop)]
+pub enum Choice {
+    Value(Expr),
+    /// The left bound, the direction and the right bound.
+    Range(Boxed<Expr>, Direction, Boxed<Expr>),
+}
+
+/// What an arrow points from.
+#[cycle(expr)]
+#[derive(Drop)]
+pub enum Actual {
+    Value(Expr),
+    /// `open`, at its place.
+    Open(Place),
+}
