@@ -9,7 +9,7 @@ use Rattle.vital_lex.specs.declared.faults.LexError.{LexError}
 use Rattle.vital_lex.specs.declared.faults.LexError.TheVariants as lex
 use Rattle.vital_lex.specs.declared.faults.TextFault.{TextFault}
 use Rattle.vital_lex.specs.declared.token_list.Token.{Token}
-use Rattle.vital_vhdl.specs.declared.place.Place.{Place}
+use Rattle.vital_base.specs.declared.place.Place.{Place}
 use Rattle.vital_vhdl.specs.declared.unit.Role.{Role}
 use Rattle.vital_vhdl.specs.declared.unit.Units.{Units}
 use Rattle.vital_vhdl.specs.declared.reading.UnitError.{UnitError}

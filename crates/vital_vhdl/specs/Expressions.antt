@@ -1,6 +1,6 @@
 -- Names, expressions and items, by the rules of their grammar. A rule takes a step first, even where it has one alternative.
 use Rattle.std.specs.Prelude.{ℕ, zero, suc, ◌==◌, nat_lt, if◌then◌else◌, List, [], ◌∷◌, slice_index, Option, Some, None}
-use Rattle.vital_vhdl.specs.declared.place.Place.{Place}
+use Rattle.vital_base.specs.declared.place.Place.{Place}
 use Rattle.vital_vhdl.specs.declared.expr.Logical.{Logical}
 use Rattle.vital_vhdl.specs.declared.expr.Logical.TheVariants as logicals
 use Rattle.vital_vhdl.specs.declared.expr.Relational.{Relational}

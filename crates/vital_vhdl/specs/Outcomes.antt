@@ -4,7 +4,7 @@ use Rattle.vital_ll.specs.declared.derivation.Step.{Step}
 use Rattle.vital_ll.specs.Sentence.{IsTreeOf, IsRefusedAt}
 use Rattle.vital_lex.specs.Outcome.{IsOutcome}
 use Rattle.vital_lex.specs.declared.token_list.Token.{Token}
-use Rattle.vital_vhdl.specs.declared.place.Place.{Place}
+use Rattle.vital_base.specs.declared.place.Place.{Place}
 use Rattle.vital_vhdl.specs.declared.unit.Role.{Role}
 use Rattle.vital_vhdl.specs.declared.unit.Units.{Units}
 use Rattle.vital_vhdl.specs.declared.reading.UnitError.{UnitError}

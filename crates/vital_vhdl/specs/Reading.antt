@@ -7,7 +7,7 @@ use Rattle.vital_lex.specs.declared.token_list.Token.{Token}
 use Rattle.vital_lex.specs.Bytes.{lower_case}
 use Rattle.vital_lex.specs.Places.{line_of, column_of}
 use Rattle.std.specs.declared.alloc.AllocError.{AllocError}
-use Rattle.vital_vhdl.specs.declared.place.Place.{Place}
+use Rattle.vital_base.specs.declared.place.Place.{Place}
 use Rattle.vital_vhdl.specs.declared.expr.Identifier.{Identifier}
 
 pub record Input : Type 0 where

@@ -1,6 +1,6 @@
 -- Statements, by the rules of their grammar.
 use Rattle.std.specs.Prelude.{ℕ, zero, suc, ◌==◌, if◌then◌else◌, List, [], ◌∷◌, Option, Some, None}
-use Rattle.vital_vhdl.specs.declared.place.Place.{Place}
+use Rattle.vital_base.specs.declared.place.Place.{Place}
 use Rattle.vital_vhdl.specs.declared.expr.Identifier.{Identifier}
 use Rattle.vital_vhdl.specs.declared.expr.Item.{Item}
 use Rattle.vital_vhdl.specs.declared.expr.Reference.{Reference, roll-Reference}

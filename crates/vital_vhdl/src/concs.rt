@@ -10,11 +10,11 @@ use crate::declarations::declarations;
 use crate::expr::{Identifier, Item, Reference};
 use crate::identifiers::{closing, is_written};
 use crate::outermost::{items, name, names, suffix_list};
-use crate::place::Place;
 use crate::statements::{assignment, statements};
 use crate::stmt::{Block, Conc, Maps, Process};
 use sqlite_items::Items;
 use std::alloc::{AllocError, Global};
+use vital_base::Place;
 
 #[tactic(auto, unfolding(crate::specs::Statements::sensitivity))]
 fn sensitivity(alloc: Global, cursor: &mut Cursor<'_>) -> Result<Items<Reference>, AllocError>

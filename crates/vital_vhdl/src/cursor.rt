@@ -6,11 +6,10 @@ ghost use Rattle.vital_vhdl.specs.Reading as spec;
 ghost use Rattle.vital_vhdl.specs.Reading.{Reads};
 
 use crate::expr::Identifier;
-use crate::place::Place;
 use crate::spot::Spot;
 use std::alloc::{AllocError, Global};
 use std::marker::Model;
-use vital_base::Name;
+use vital_base::{Name, Place};
 use vital_lex::Token;
 use vital_ll::Step;
 

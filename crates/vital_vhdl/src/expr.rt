@@ -1,8 +1,7 @@
 //! Expressions, names and associations (IEEE 1076-1993, clauses 6 and 7). Each node has the place of its first token.
 
-use crate::place::Place;
 use sqlite_items::{Boxed, Items};
-use vital_base::Name;
+use vital_base::{Name, Place};
 
 /// An identifier where it stands: folded to lower case if it is a basic one, and as it stands if it is an extended one
 /// (IEEE 1076-1993, 13.3).

@@ -14,7 +14,6 @@ mod items;
 mod nodes;
 mod operators;
 mod outermost;
-mod place;
 mod reading;
 mod shared;
 mod spot;
@@ -31,7 +30,6 @@ pub use expr::{
     Actual, Adding, Choice, Direction, Expr, Identifier, Item, Logical, Multiplying, Physical,
     Reference, Relational, Sign, Suffix,
 };
-pub use place::Place;
 pub use reading::{UnitError, read_units};
 pub use shared::Shared;
 pub use stmt::{Assignment, Block, Branch, Conc, Maps, Process, Stmt};

@@ -6,10 +6,9 @@ ghost use Rattle.vital_vhdl.specs.Reading.{Reads};
 
 use crate::cursor::Cursor;
 use crate::expr::{Adding, Expr, Multiplying, Physical, Sign};
-use crate::place::Place;
 use sqlite_items::{Boxed, Items};
 use std::alloc::{AllocError, Global};
-use vital_base::Name;
+use vital_base::{Name, Place};
 
 /// A number, and its unit if it has one.
 #[tactic(auto, unfolding(crate::specs::Expressions::number))]

@@ -10,19 +10,18 @@ ghost use Rattle.vital_vhdl.specs.Grammar.{grammar};
 ghost use Rattle.vital_vhdl.specs.Outcomes.{GivesUnits, IsReading, IsRefusedText, IsUnitsOf, kinds_of, offset_of};
 ghost use Rattle.vital_vhdl.specs.Reading.{place_at};
 ghost use Rattle.vital_vhdl.specs.Shapes.{shape};
-ghost use Rattle.vital_vhdl.specs.declared.place.Place.{Place};
+ghost use Rattle.vital_base.specs.declared.place.Place.{Place};
 ghost use Rattle.vital_vhdl.specs.declared.reading.UnitError.{UnitError};
 ghost use Rattle.vital_vhdl.specs.declared.reading.UnitError.TheVariants.{NoMemory};
 ghost use Rattle.vital_vhdl.specs.declared.unit.Units.{Units};
 
 use crate::cursor::Cursor;
 use crate::grammar::grammar_rules;
-use crate::place::Place;
 use crate::spot::Spot;
 use crate::unit::{Role, Unit, Units};
 use crate::units::file_units;
 use std::alloc::{AllocError, AllocFailed, Global};
-use vital_base::List;
+use vital_base::{List, Place};
 use vital_lex::{LexError, TextFault, Token, lex_vhdl};
 use vital_ll::{ParseError, Rules, RulesError, Step, Tree, masks_decide, parse, ranks_derive};
 

@@ -9,10 +9,10 @@ use crate::cursor::Cursor;
 use crate::expr::Reference;
 use crate::nodes::only;
 use crate::outermost::{expression, name, optional_value};
-use crate::place::Place;
 use crate::stmt::{Assignment, Branch, Stmt};
 use sqlite_items::Items;
 use std::alloc::{AllocError, Global};
+use vital_base::Place;
 
 /// `<=`, a value, and a delay if it is written.
 #[tactic(auto, unfolding(crate::specs::Statements::assignment))]

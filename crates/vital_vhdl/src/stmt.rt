@@ -2,8 +2,8 @@
 
 use crate::decl::Decl;
 use crate::expr::{Expr, Identifier, Item, Reference};
-use crate::place::Place;
 use sqlite_items::Items;
+use vital_base::Place;
 
 /// A target, the value that it is given, and after how long if that is written.
 #[derive(Drop)]

@@ -1,6 +1,7 @@
 use super::*;
 use std::alloc::Global;
 use std::test::Fail;
+use vital_base::Place;
 
 /// The line and the column where a text is refused, or none if it is read.
 fn refusal(alloc: Global, text: &[u8]) -> Result<Option<(u32, u32)>, UnitError> {

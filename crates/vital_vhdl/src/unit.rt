@@ -2,10 +2,9 @@
 
 use crate::decl::{Decl, Iface};
 use crate::expr::Identifier;
-use crate::place::Place;
 use crate::stmt::Conc;
 use sqlite_items::Items;
-use vital_base::List;
+use vital_base::{List, Place};
 
 /// An entity declaration.
 #[derive(Drop)]
