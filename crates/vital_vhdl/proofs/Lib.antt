@@ -1,3 +1,4 @@
+pub mod IdentifierNames
 pub mod Predictive
 pub mod Turns
 pub mod Answered

@@ -1,3 +1,4 @@
+pub mod IdentifierNames
 pub mod Reading
 pub mod Spots
 pub mod Cursors

@@ -1,13 +1,13 @@
 -- What shapes are read from: the steps of a file's derivation, each with the alternative that was chosen, and its tokens. A
 -- reader takes from the fronts of both and answers a part of a shape. Where nothing is left, the next alternative is 0, and
--- the next token is an empty one at the beginning of the file.
+-- the next token is an empty one of no kind at the beginning of the file.
 use Rattle.std.specs.Prelude.{◌≡◌, ℕ, zero, suc, ◌==◌, Bool, true, false, if◌then◌else◌, List, [], ◌∷◌, ◌++◌, length, drop, map, slice_range, Result, Ok, Err}
 use Rattle.vital_ll.specs.declared.derivation.Step.{Step}
 use Rattle.vital_lex.specs.declared.token_list.Token.{Token}
-use Rattle.vital_lex.specs.Bytes.{lower_case}
 use Rattle.vital_lex.specs.Places.{line_of, column_of}
 use Rattle.std.specs.declared.alloc.AllocError.{AllocError}
 use Rattle.vital_base.specs.declared.place.Place.{Place}
+use Rattle.vital_vhdl.specs.IdentifierNames.{name_in}
 use Rattle.vital_vhdl.specs.declared.expr.Identifier.{Identifier}
 
 pub record Input : Type 0 where
@@ -56,7 +56,7 @@ left i = length i.steps
 -- ---- tokens
 
 abbrev pub no_token : Token
-no_token = record { kind = 0; start = 0; end = 0 }
+no_token = record { kind = 65535; start = 0; end = 0 }
 
 abbrev pub first_token : List Token → Token
 first_token [] = no_token
@@ -92,20 +92,17 @@ spelling = λ i. (next_spelling i, past_token i)
 
 -- ---- identifiers
 
--- The first alternative is a basic identifier, in which capitals count for nothing.
-unfoldable pub folded : ℕ → List ℕ → List ℕ
-folded zero bytes = map lower_case bytes
-folded (suc n) bytes = bytes
+-- takes a token for its name
+abbrev pub name_of_next : Reader (List ℕ)
+name_of_next = λ i. (name_in i.text (next_token i), past_token i)
 
-abbrev pub named : Place → List ℕ → Identifier
-named p bytes = record { place = p; name = bytes }
-
+-- id: a step, and a token for its name
 unfoldable pub identifier : Reader Identifier
 identifier = do
-  form ← choice
+  choice
   at ← place
-  bytes ← spelling
-  pure (named at (folded form bytes))
+  called ← name_of_next
+  pure (record { place = at; name = called })
 
 -- ---- what a function that reads ensures: what the reader gives, unless memory runs out
 

@@ -1,15 +1,16 @@
 //! A cursor over the derivation and the tokens of a file.
 
-ghost use Rattle.std.specs.Prelude.{◌≡◌, ◌≤◌, length, IfOk};
-ghost use Rattle.vital_lex.specs.Bytes.{lower_case};
+ghost use Rattle.std.specs.Prelude.{◌≡◌, ◌≤◌, length, slice_range, IfOk};
+ghost use Rattle.vital_vhdl.specs.IdentifierNames.{HaveNames, IsIdentifierName, name_in};
 ghost use Rattle.vital_vhdl.specs.Reading as spec;
-ghost use Rattle.vital_vhdl.specs.Reading.{Reads};
+ghost use Rattle.vital_vhdl.specs.Reading.{Reads, next_token};
 
 use crate::expr::Identifier;
+use crate::identifier_name::IdentifierName;
 use crate::spot::Spot;
 use std::alloc::{AllocError, Global};
 use std::marker::Model;
-use vital_base::{Name, Place};
+use vital_base::Place;
 use vital_lex::Token;
 use vital_ll::Step;
 
@@ -37,6 +38,9 @@ impl<'a> Model for Cursor<'a> {
     ghost invariant = { IsReady };
 }
 
+/// The kind of no token.
+const NO_KIND: u16 = u16::MAX;
+
 impl<'a> Cursor<'a> {
     /// The cursor at the beginning of a file.
     pub(crate) fn new(
@@ -45,7 +49,8 @@ impl<'a> Cursor<'a> {
         tokens: &'a [Token],
         steps: &'a [Step],
     ) -> Cursor<'a>
-        requires { length text.now ≤ 16777216 }
+        requires size { length text.now ≤ 16777216 }
+        requires names { HaveNames text.now tokens.now }
         ensures { result ≡ record { steps = steps.now; tokens = tokens.now; text = text.now; file = file } }
     {
         Cursor {
@@ -89,13 +94,15 @@ impl<'a> Cursor<'a> {
         }
     }
 
-    #[tactic(auto, unfolding(crate::specs::Reading::next_token))]
+    /// The next token.
+    #[tactic(auto, using(crate::proofs::IdentifierNames::named_past_end), unfolding(crate::specs::Reading::next_token))]
     fn token(&self) -> Token
-        ensures { result ≡ spec.next_token self.now }
+        ensures next { result ≡ next_token self.now }
+        ensures named { IsIdentifierName (name_in self.now.text result) }
     {
         match self.tokens {
             [] => Token {
-                kind: 0,
+                kind: NO_KIND,
                 start: 0,
                 end: 0,
             },
@@ -117,16 +124,32 @@ impl<'a> Cursor<'a> {
         }
     }
 
+    /// The bytes of a token.
+    fn bytes_of(&self, token: Token) -> &'a [u8]
+        ensures { result.now ≡ slice_range self.now.text token.start token.end }
+    {
+        let end = (token.end as usize).min(self.text.len());
+        let start = (token.start as usize).min(end);
+        &self.text[start..end]
+    }
+
     /// Takes a token for its bytes.
     #[tactic(auto, unfolding(crate::specs::Reading::next_spelling, crate::specs::Reading::past_token))]
     pub(crate) fn spelling(&mut self) -> &'a [u8]
         ensures { spec.spelling self.old ≡ (result.now, self.new) }
     {
-        let token = self.token();
+        let bytes = self.bytes_of(self.token());
         self.skip();
-        let end = (token.end as usize).min(self.text.len());
-        let start = (token.start as usize).min(end);
-        &self.text[start..end]
+        bytes
+    }
+
+    /// The name of the next token.
+    #[tactic(auto, unfolding(crate::specs::IdentifierNames::name_in))]
+    fn name(&self, alloc: Global) -> Result<IdentifierName, AllocError>
+        ensures { IfOk result (λ name. name ≡ name_in self.now.text (next_token self.now)) }
+    {
+        let token = self.token();
+        IdentifierName::of_token(alloc, token.kind, self.bytes_of(token))
     }
 
     /// Takes an identifier.
@@ -134,32 +157,10 @@ impl<'a> Cursor<'a> {
     pub(crate) fn identifier(&mut self, alloc: Global) -> Result<Identifier, AllocError>
         ensures { Reads (spec.identifier self.old) result self.new }
     {
-        let form = self.choice();
+        self.choice();
         let place = self.place();
-        let name = folded(alloc, form, self.spelling())?;
+        let name = self.name(alloc)?;
+        self.skip();
         Ok(Identifier { place, name })
     }
-}
-
-/// The lower case of a letter, and every other byte as it is.
-fn lower_case(byte: u8) -> u8
-    ensures { result ≡ lower_case byte }
-{
-    if byte.is_ascii_uppercase() {
-        byte + 32
-    } else {
-        byte
-    }
-}
-
-/// The name of an identifier with these bytes. Its form is 0 for a basic one, whose capitals count for nothing.
-#[tactic(auto, unfolding(crate::specs::Reading::folded))]
-fn folded(alloc: Global, form: u16, bytes: &[u8]) -> Result<Name, AllocError>
-    ensures { IfOk result (λ name. name ≡ spec.folded form bytes.now) }
-{
-    if form != 0 {
-        return Ok(Name::new(Vec::from_slice(alloc, bytes)?));
-    }
-    let name: Vec<u8> = bytes.iter().map(|byte| lower_case(*byte)).collect(alloc)?;
-    Ok(Name::new(name))
 }

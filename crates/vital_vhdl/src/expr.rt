@@ -1,14 +1,14 @@
 //! Expressions, names and associations (IEEE 1076-1993, clauses 6 and 7). Each node has the place of its first token.
 
+use crate::identifier_name::IdentifierName;
 use sqlite_items::{Boxed, Items};
 use vital_base::{Name, Place};
 
-/// An identifier where it stands: folded to lower case if it is a basic one, and as it stands if it is an extended one
-/// (IEEE 1076-1993, 13.3).
+/// An identifier where it stands.
 #[derive(Debug, Drop)]
 pub struct Identifier {
     pub place: Place,
-    pub name: Name,
+    pub name: IdentifierName,
 }
 
 /// A logical operator between relations (IEEE 1076-1993, 7.2.1).
@@ -107,7 +107,7 @@ pub struct Reference {
     /// The place of the identifier.
     pub place: Place,
     /// The identifier.
-    pub name: Name,
+    pub name: IdentifierName,
     pub suffixes: Items<Suffix>,
 }
 

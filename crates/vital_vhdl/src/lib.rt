@@ -8,6 +8,7 @@ mod declarations;
 mod expr;
 mod expressions;
 mod grammar;
+mod identifier_name;
 mod identifiers;
 mod interfaces;
 mod items;
@@ -30,6 +31,7 @@ pub use expr::{
     Actual, Adding, Choice, Direction, Expr, Identifier, Item, Logical, Multiplying, Physical,
     Reference, Relational, Sign, Suffix,
 };
+pub use identifier_name::IdentifierName;
 pub use reading::{UnitError, read_units};
 pub use shared::Shared;
 pub use stmt::{Assignment, Block, Branch, Conc, Maps, Process, Stmt};

@@ -7,6 +7,7 @@ ghost use Rattle.vital_ll.specs.Refusal.{IsRefusal};
 ghost use Rattle.vital_ll.specs.Sentence.{IsTreeOf};
 ghost use Rattle.vital_ll.specs.declared.derivation.Step.{Step};
 ghost use Rattle.vital_vhdl.specs.Grammar.{grammar};
+ghost use Rattle.vital_vhdl.specs.IdentifierNames.{HaveNames};
 ghost use Rattle.vital_vhdl.specs.Outcomes.{GivesUnits, IsReading, IsRefusedText, IsUnitsOf, kinds_of, offset_of};
 ghost use Rattle.vital_vhdl.specs.Reading.{place_at};
 ghost use Rattle.vital_vhdl.specs.Shapes.{shape};
@@ -114,7 +115,8 @@ fn shaped(
     tokens: &[Token],
     steps: &[Step],
 ) -> Result<Vec<Unit>, AllocError>
-    requires { length text.now ≤ 16777216 }
+    requires size { length text.now ≤ 16777216 }
+    requires names { HaveNames text.now tokens.now }
     ensures { IfOk result (λ units. units.items ≡ shape file text.now tokens.now steps.now) }
 {
     let mut cursor = Cursor::new(file, text, tokens, steps);

@@ -1,0 +1,159 @@
+-- Each token of a text has a well-formed name.
+use Rattle.std.proofs.Common.{◌≡◌, ℕ, Bool, true, not, ◌&&◌, ◌||◌, eqb, cond, List, [], ◌∷◌, ◌++◌, map, Option, Some, None, refl, ap, sym, subst, ◌∙◌, inl, inr, arith}
+use Rattle.std.specs.Prelude.{nat_le, slice_range, All, unwrap_or}
+use Rattle.std.specs.Char.{to_ascii_lowercase}
+use Rattle.std.specs.List.{list_all}
+use Rattle.std.specs.Str.{bytes_eq}
+use Rattle.std.proofs.lemmas.Bool.{and_parts, cond_both, leb-true, ne_eqb}
+use Rattle.std.proofs.lemmas.List.Elements.{All-nil, All-push, All-map}
+use Rattle.vital_lex.specs.Bytes.{is_letter, is_letter_or_digit, lower_case}
+use Rattle.vital_lex.specs.Delimiters.{delimiters}
+use Rattle.vital_lex.specs.Forms.{begins, continues, are_underlined, is_basic_identifier, is_extended_identifier, is_number, is_string_literal, is_tick, is_character_literal, takes_tick, kind_in, word_kind, lexeme_kind}
+use Rattle.vital_lex.specs.Kinds.{number}
+use Rattle.vital_lex.specs.Pieces.{Lexeme, Lexes, Row, empty, separator, lexeme, token_of}
+use Rattle.vital_lex.specs.ReservedWords.{reserved_words}
+use Rattle.vital_lex.specs.declared.kinds.Kind.{Kind}
+use Rattle.vital_lex.specs.declared.kinds.Kind.TheVariants as kind
+use Rattle.vital_lex.specs.declared.token_list.Token.{Token}
+use Rattle.vital_vhdl.specs.IdentifierNames.{IsBasicName, IsIdentifierName, HaveNames, name_of, name_in, no_identifier}
+use Rattle.vital_vhdl.specs.Reading.{no_token}
+
+-- ---- lower case
+
+lower_case_is : (b : ℕ) → to_ascii_lowercase b ≡ lower_case b
+lower_case_is b = grind arith
+
+pub map_lower_case : (bytes : List ℕ) → map to_ascii_lowercase bytes ≡ map lower_case bytes
+map_lower_case [] = refl
+map_lower_case (b ∷ bytes) = ap (λ (x : ℕ). x ∷ map to_ascii_lowercase bytes) (lower_case_is b) ∙ ap (λ (xs : List ℕ). lower_case b ∷ xs) (map_lower_case bytes)
+
+lower_case-twice : (b : ℕ) → lower_case (lower_case b) ≡ lower_case b
+lower_case-twice b = grind arith
+
+map-twice : (bytes : List ℕ) → map lower_case (map lower_case bytes) ≡ map lower_case bytes
+map-twice [] = refl
+map-twice (b ∷ bytes) = ap (λ (x : ℕ). x ∷ map lower_case (map lower_case bytes)) (lower_case-twice b) ∙ ap (λ (xs : List ℕ). lower_case b ∷ xs) (map-twice bytes)
+
+is_letter-lower : (b : ℕ) → is_letter (lower_case b) ≡ is_letter b
+is_letter-lower b = grind arith
+
+is_letter_or_digit-lower : (b : ℕ) → is_letter_or_digit (lower_case b) ≡ is_letter_or_digit b
+is_letter_or_digit-lower b = grind arith
+
+underline-lower : (b : ℕ) → eqb (lower_case b) 95 ≡ eqb b 95
+underline-lower b = grind arith
+
+-- Of a class that does not part small letters from capitals, bytes begin with one where they do in lower case.
+module _ (class : ℕ → Bool) (same : (b : ℕ) → class (lower_case b) ≡ class b) where
+  begins-lower : (bytes : List ℕ) → begins class (map lower_case bytes) ≡ begins class bytes
+  begins-lower [] = refl
+  begins-lower (b ∷ bytes) = same b
+
+  continues-lower : (bytes : List ℕ) → continues class (map lower_case bytes) ≡ continues class bytes
+  continues-lower [] = refl
+  continues-lower (b ∷ bytes) =
+      ap (λ (x : Bool). x || (eqb (lower_case b) 95 && begins class (map lower_case bytes))) (same b)
+      ∙ ap (λ (x : Bool). class b || (x && begins class (map lower_case bytes))) (underline-lower b)
+      ∙ ap (λ (x : Bool). class b || (eqb b 95 && x)) (begins-lower bytes)
+
+  are_underlined-lower : (bytes : List ℕ) → are_underlined class (map lower_case bytes) ≡ are_underlined class bytes
+  are_underlined-lower [] = refl
+  are_underlined-lower (b ∷ bytes) =
+      ap (λ (x : Bool). x && are_underlined class (map lower_case bytes)) (continues-lower (b ∷ bytes))
+      ∙ ap (λ (x : Bool). continues class (b ∷ bytes) && x) (are_underlined-lower bytes)
+
+is_basic_identifier-lower : (bytes : List ℕ) → is_basic_identifier (map lower_case bytes) ≡ is_basic_identifier bytes
+is_basic_identifier-lower bytes =
+    ap (λ (x : Bool). x && are_underlined is_letter_or_digit (map lower_case bytes)) (begins-lower is_letter is_letter-lower bytes)
+    ∙ ap (λ (x : Bool). begins is_letter bytes && x) (are_underlined-lower is_letter_or_digit is_letter_or_digit-lower bytes)
+
+-- ---- kinds that are no identifier
+
+abbrev is_other : Kind → Bool
+is_other k = nat_le 2 (number k)
+
+-- the kind, if there is one, is no identifier's
+abbrev IsOther : Option Kind → Type 0
+IsOther o = (k : Kind) → o ≡ Some k → is_other k ≡ true
+
+some_other : (j : Kind) → is_other j ≡ true → IsOther (Some j)
+some_other j other k is = let same : j ≡ k = cc in subst (λ (x : Kind). is_other x ≡ true) same other
+
+kind_in-other : (table : List (List ℕ × Kind)) (bytes : List ℕ) → list_all (λ entry. is_other entry.1) table ≡ true → IsOther (kind_in table bytes)
+kind_in-other [] bytes others k is = absurd cc
+kind_in-other (entry ∷ table) bytes others k is =
+    let parts = and_parts (is_other entry.1) _ others in
+    cond_both (bytes_eq entry.0 bytes) (Some entry.1) (kind_in table bytes) IsOther (λ _. some_other entry.1 parts.0) (λ _. kind_in-other table bytes parts.1) k is
+
+other_name : (bytes : List ℕ) (k : Kind) → is_other k ≡ true → name_of (number k) bytes ≡ no_identifier
+unfolding name_of
+other_name bytes k other =
+    let above = leb-true 2 (number k) other in
+    rw (ne_eqb (number k) 0 (omega arith), ne_eqb (number k) 1 (omega arith)) refl
+
+named_other : (bytes : List ℕ) (k : Kind) → is_other k ≡ true → IsIdentifierName (name_of (number k) bytes)
+named_other bytes k other = subst IsIdentifierName (sym (other_name bytes k other)) (inr refl)
+
+-- ---- lexemes
+
+-- the kind, if there is one, gives the bytes a well-formed name
+abbrev IsNamed : List ℕ → Option Kind → Type 0
+IsNamed bytes o = (k : Kind) → o ≡ Some k → IsIdentifierName (name_of (number k) bytes)
+
+named_word : (bytes : List ℕ) → is_basic_identifier bytes ≡ true → (found : Option Kind) → found ≡ kind_in reserved_words (map lower_case bytes)
+    → IsOther found → (k : Kind) → unwrap_or found kind.Identifier ≡ k → IsIdentifierName (name_of (number k) bytes)
+unfolding name_of
+named_word bytes basic None is others k same =
+    subst (λ (x : Kind). IsIdentifierName (name_of (number x) bytes)) same
+    (inl (record { basic = is_basic_identifier-lower bytes ∙ basic; folded = map-twice bytes; not_reserved = sym is }))
+named_word bytes basic (Some j) is others k same = subst (λ (x : Kind). IsIdentifierName (name_of (number x) bytes)) same (named_other bytes j (others j refl))
+
+named_basic : (bytes : List ℕ) → is_basic_identifier bytes ≡ true → IsNamed bytes (Some (word_kind bytes))
+unfolding word_kind
+named_basic bytes basic k is =
+    let reserved = kind_in reserved_words (map lower_case bytes) in
+    let same : unwrap_or reserved kind.Identifier ≡ k = cc in
+    named_word bytes basic reserved refl (kind_in-other reserved_words (map lower_case bytes) refl) k same
+
+named_extended : (bytes : List ℕ) → is_extended_identifier bytes ≡ true → IsNamed bytes (Some kind.ExtendedIdentifier)
+unfolding name_of
+named_extended bytes extended k is =
+    let same : kind.ExtendedIdentifier ≡ k = cc in subst (λ (x : Kind). IsIdentifierName (name_of (number x) bytes)) same (inr extended)
+
+named_rest : (bytes : List ℕ) (o : Option Kind) → IsOther o → IsNamed bytes o
+named_rest bytes o others k is = named_other bytes k (others k is)
+
+other_quotes : (before : Option Kind) (bytes : List ℕ)
+    → IsOther (cond (is_tick bytes && takes_tick before) (Some kind.Tick) (cond (is_character_literal bytes && not (takes_tick before)) (Some kind.CharacterLiteral) (kind_in delimiters bytes)))
+other_quotes before bytes =
+    cond_both (is_tick bytes && takes_tick before) _ _ IsOther (λ _. some_other kind.Tick refl) (λ _.
+    cond_both (is_character_literal bytes && not (takes_tick before)) _ _ IsOther (λ _. some_other kind.CharacterLiteral refl) (λ _. kind_in-other delimiters bytes refl))
+
+named_lexeme : (before : Option Kind) (bytes : List ℕ) → IsNamed bytes (lexeme_kind before bytes)
+unfolding lexeme_kind
+named_lexeme before bytes =
+    cond_both (is_basic_identifier bytes) _ _ (IsNamed bytes) (named_basic bytes) (λ _.
+    cond_both (is_extended_identifier bytes) _ _ (IsNamed bytes) (named_extended bytes) (λ _.
+    named_rest bytes _ (
+    cond_both (is_number bytes) _ _ IsOther (λ _. some_other kind.Number refl) (λ _.
+    cond_both (is_string_literal bytes) _ _ IsOther (λ _. some_other kind.StringLiteral refl) (λ _. other_quotes before bytes)))))
+
+-- ---- texts
+
+named_row : {text : List ℕ} {at : ℕ} {lexemes : List Lexeme} → Row text at lexemes → All (λ (l : Lexeme). IsIdentifierName (name_in text (token_of l))) lexemes
+unfolding name_in
+named_row {text} empty = All-nil (λ (l : Lexeme). IsIdentifierName (name_in text (token_of l)))
+named_row (separator row stands) = named_row row
+named_row {text} (lexeme {lexemes = ls} {l = l} row next) =
+    All-push (λ (x : Lexeme). IsIdentifierName (name_in text (token_of x))) ls l (named_row row)
+    (named_lexeme _ (slice_range text l.start l.end) l.kind next.lexeme.kind_is)
+
+-- the tokens of a text have names
+pub names_of_text : (text : List ℕ) (tokens : List Token) → Lexes text tokens → HaveNames text tokens
+names_of_text text tokens lexed =
+    subst (HaveNames text) (sym lexed.2) (All-map (λ (t : Token). IsIdentifierName (name_in text t)) token_of lexed.0 (named_row lexed.1))
+
+-- and so has the token past the end
+pub named_past_end : (text : List ℕ) → IsIdentifierName (name_in text no_token)
+unfolding name_in name_of
+named_past_end text = inr refl
