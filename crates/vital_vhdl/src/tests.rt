@@ -1,7 +1,21 @@
+mod declarations;
+mod expressions;
+mod limits;
+mod statements;
+mod units;
+
 use super::*;
 use std::alloc::Global;
 use std::test::Fail;
 use vital_base::Place;
+use vital_lex::TextFault;
+
+/// A rule of the grammar, a text, and the line and the column of its first wrong token, which stands in that rule.
+type Refused = (&'static str, &'static [u8], (u32, u32));
+
+/// The reserved words (IEEE 1076-1993, 13.9).
+const RESERVED_WORDS: &[u8] =
+    b"abs access after alias all and architecture array assert attribute begin block body buffer bus case component configuration constant disconnect downto else elsif end entity exit file for function generate generic group guarded if impure in inertial inout is label library linkage literal loop map mod nand new next nor not null of on open or others out package port postponed procedure process pure range record register reject rem report return rol ror select severity signal shared sla sll sra srl subtype then to transport type unaffected units until use variable wait when while with xnor xor";
 
 /// The line and the column where a text is refused, or none if it is read.
 fn refusal(alloc: Global, text: &[u8]) -> Result<Option<(u32, u32)>, UnitError> {
@@ -15,106 +29,78 @@ fn refusal(alloc: Global, text: &[u8]) -> Result<Option<(u32, u32)>, UnitError> 
     }
 }
 
+/// The fault of a text with at most `room` tokens, or none if it is read.
+fn fault(alloc: Global, text: &[u8], room: u32) -> Result<Option<TextFault>, UnitError> {
+    if text.len() > 10000 {
+        return Err(UnitError::NoMemory);
+    }
+    match read_units(alloc, 0, Role::Lib, text, room) {
+        Ok(_) => Ok(None),
+        Err(UnitError::Lex(fault)) => Ok(Some(fault)),
+        Err(error) => Err(error),
+    }
+}
+
 #[test]
 fn refuses_each_rule_at_its_first_wrong_token(rt: HostRuntime) -> Result<(), Fail> {
-    let rows: [(&[u8], (u32, u32)); 40] = [
-        (b"entity E is end; end", (1, 18)),
-        (b"library a b;", (1, 11)),
-        (b"use a.b c;", (1, 9)),
-        (b"entity entity is end;", (1, 8)),
-        (b"entity E end;", (1, 10)),
-        (b"entity E is generic x", (1, 21)),
-        (b"entity E is port (A : in B) end;", (1, 29)),
-        (b"entity E is port (signal in", (1, 26)),
-        (b"entity E is port (A : in out", (1, 26)),
-        (b"entity E is port (A : range", (1, 23)),
-        (b"entity E is port (A : B range 1 2", (1, 33)),
-        (b"architecture A E", (1, 16)),
-        (b"package P is begin", (1, 14)),
-        (b"configuration C of E is end", (1, 25)),
-        (b"package P is attribute A is", (1, 26)),
-        (b"package P is attribute A of B : port", (1, 33)),
-        (b"package P is constant C is", (1, 25)),
-        (b"package P is alias A ;", (1, 22)),
-        (b"package P is component C end ;", (1, 30)),
-        (b"architecture A of E is begin X is", (1, 32)),
-        (b"architecture A of E is begin X : if", (1, 34)),
-        (b"architecture A of E is begin X : Y port (", (1, 41)),
-        (b"architecture A of E is begin process (A b", (1, 41)),
-        (
-            b"architecture A of E is begin process begin X := ;",
-            (1, 49),
-        ),
-        (
-            b"architecture A of E is begin process begin if A B",
-            (1, 49),
-        ),
-        (
-            b"architecture A of E is begin process begin null end",
-            (1, 49),
-        ),
-        (
-            b"architecture A of E is begin process begin if A then elsif ;",
-            (1, 60),
-        ),
-        (
-            b"architecture A of E is begin process begin if A then else elsif",
-            (1, 59),
-        ),
-        (b"architecture A of E is begin process begin X . (", (1, 48)),
-        (b"architecture A of E is begin process begin X';", (1, 46)),
-        (b"architecture A of E is begin process begin X ( ,", (1, 48)),
-        (
-            b"architecture A of E is begin process begin X ( others ;",
-            (1, 55),
-        ),
-        (
-            b"architecture A of E is begin process begin X ( A => )",
-            (1, 53),
-        ),
-        (
-            b"architecture A of E is begin process begin X := A and B or C",
-            (1, 57),
-        ),
-        (
-            b"architecture A of E is begin process begin X := A nand B nand C",
-            (1, 58),
-        ),
-        (
-            b"architecture A of E is begin process begin X := A = B = C",
-            (1, 55),
-        ),
-        (
-            b"architecture A of E is begin process begin X := + + A",
-            (1, 51),
-        ),
-        (
-            b"architecture A of E is begin process begin X := not not A",
-            (1, 53),
-        ),
-        (b"entity E is", (1, 12)),
-        (b"entity E is\n", (2, 1)),
+    let tables: [&[Refused]; 4] = [
+        &units::REFUSED,
+        &declarations::REFUSED,
+        &statements::REFUSED,
+        &expressions::REFUSED,
     ];
-    for (text, place) in rows {
-        assert_eq!(rt; refusal(rt.alloc(), text)?, Some(place));
+    for table in tables {
+        for (rule, text, place) in table {
+            assert_eq!(rt; refusal(rt.alloc(), text)?, Some(*place), "{rule}");
+        }
     }
     Ok(())
 }
 
 #[test]
 fn reads_each_rule(rt: HostRuntime) -> Result<(), Fail> {
-    let rows: [&[u8]; 8] = [
-        b"",
-        b"library ieee, work; use ieee.std_logic_1164.all, a.b;",
-        b"configuration C of E is for A end for; end configuration C;",
-        b"entity \\entity\\ is generic (constant A, B : C := 1 ns); port (signal D : out E bus; F : linkage G range 1 to 2); begin P (1); end entity E;",
-        b"package P is attribute A : B; attribute A of all : label is 1; attribute A of others : signal is -1 + 2 * 3 / 4 & \"x\"; end package P;",
-        b"package P is constant C, D : T := 'x'; alias X : Y is Z(0 downto 1); component C is generic (A : B); port (C : D); end component C; end;",
-        b"architecture A of E is begin L : process (A, B(1)) is variable V : T; begin V := not A; if (A = B) then W <= A xor B xor C after 1 ns; elsif D then null; else F(G'H, open, others => 1, I => open, J to K => L); end if; end process L; M : component N generic map (O => 1) port map (P); Q : R; S : block is begin T <= U'(V => W); X; end block S; end architecture A;",
-        b"architecture A of E is begin process begin X.all(1) := A nand B; Y := A /= B; end process; end;",
+    let tables: [&[&[u8]]; 4] = [
+        &units::READ,
+        &declarations::READ,
+        &statements::READ,
+        &expressions::READ,
     ];
-    for text in rows {
-        assert_eq!(rt; refusal(rt.alloc(), text)?, None);
+    for table in tables {
+        for text in table {
+            assert_eq!(rt; refusal(rt.alloc(), text)?, None);
+        }
+    }
+    Ok(())
+}
+
+#[test]
+fn refuses_each_reserved_word_as_a_name(rt: HostRuntime) -> Result<(), Fail> {
+    let mut words = 0;
+    for word in RESERVED_WORDS.split(|byte| *byte == b' ') {
+        let mut text = Vec::from_slice(rt.alloc(), b"entity ")?;
+        text.extend_from_slice(word)?;
+        text.extend_from_slice(b" is end;")?;
+        assert_eq!(rt; refusal(rt.alloc(), &text)?, Some((1, 8)));
+        words += 1;
+    }
+    assert_eq!(rt; words, 97);
+    Ok(())
+}
+
+#[test]
+fn reads_up_to_each_limit(rt: HostRuntime) -> Result<(), Fail> {
+    let text = b"entity E is end;";
+    assert_eq!(rt; fault(rt.alloc(), text, 5)?, None);
+    let too_many = TextFault::TooManyTokens { offset: 15 };
+    assert_eq!(rt; fault(rt.alloc(), text, 4)?, Some(too_many));
+    for nest in &limits::NESTS {
+        let read = nest.text(rt.alloc(), 64)?;
+        assert_eq!(rt; fault(rt.alloc(), &read, 2000)?, None);
+        let refused = nest.text(rt.alloc(), 65)?;
+        let too_deep = TextFault::TooDeep {
+            offset: nest.refused_at,
+        };
+        assert_eq!(rt; fault(rt.alloc(), &refused, 2000)?, Some(too_deep));
     }
     Ok(())
 }
