@@ -19,6 +19,10 @@ example_masks = (true, 2, 1) ∷ (false, 2, 3) ∷ (true, 4, 8) ∷ []
 abbrev pub example_ranks : List ℕ
 example_ranks = 0 ∷ 1 ∷ 0 ∷ []
 
+-- the file leads with a line
+abbrev pub example_leads : List ℕ
+example_leads = 1 ∷ 0 ∷ 0 ∷ []
+
 -- Two rules that the next token does not decide: rule 1, where the empty alternative competes with what follows, and rule 2:
 -- text = [ name ] name tail ;  tail = "=" | "=" name
 abbrev pub undecided : Grammar
