@@ -12,3 +12,4 @@ pub mod Filling
 pub mod ByTables
 pub mod Leads
 pub mod Deciding
+pub mod Readings
