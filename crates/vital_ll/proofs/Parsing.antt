@@ -1,6 +1,6 @@
 -- The state of reading: the tokens taken, the stack and the steps written.
 use Rattle.std.proofs.Common.{◌≡◌, ℕ, ◌+◌, ◌<◌, ◌≤◌, List, [], ◌∷◌, ◌++◌, length, reverse, take, get_or, Option, Some, None, Err, sym, ap, ◌∙◌, subst, append_assoc, arith, Bool, true, false, IsTrue, IsSome, is_some, unwrap_or, ◌↔◌}
-use Rattle.std.proofs.lemmas.List.{reverse-append, take_more, take_all, get_or_past}
+use Rattle.std.proofs.lemmas.List.{reverse-append, take_all, get_or_past}
 use Rattle.std.proofs.lemmas.List.Elements.{All-head}
 use Rattle.vital_ll.specs.declared.grammar.Sym.{Sym}
 use Rattle.vital_ll.specs.declared.grammar.Sym.TheVariants.{Token, Rule}

@@ -1,6 +1,6 @@
 -- Each list of tokens has one reading: from state to state while tokens are left, and at one token down the lead ranks.
-use Rattle.std.proofs.Common.{◌≡◌, ℕ, zero, suc, ◌+◌, ◌<◌, ◌≤◌, Bool, true, false, ◌&&◌, cond, ltb, List, [], ◌∷◌, ◌++◌, length, take, get_or, Some, Result, Ok, Err, refl, sym, ap, subst, arith, inl, inr, ◌⊎◌}
-use Rattle.std.proofs.lemmas.Bool.{cases_Bool, cases_eq, cases_lt, and_parts, and_from, ltb-true}
+use Rattle.std.proofs.Common.{◌≡◌, ℕ, zero, suc, ◌+◌, ◌<◌, ◌≤◌, Bool, true, false, ◌&&◌, cond, ltb, List, [], ◌∷◌, ◌++◌, length, take, get_or, Result, Ok, Err, refl, sym, ap, subst, arith, inl, inr, ◌⊎◌}
+use Rattle.std.proofs.lemmas.Bool.{cases_eq, cases_lt, and_parts, and_from, ltb-true}
 use Rattle.std.proofs.lemmas.List.{get_or_past, take_all}
 use Rattle.vital_ll.specs.declared.grammar.Sym.{Sym}
 use Rattle.vital_ll.specs.declared.grammar.Sym.TheVariants.{Token, Rule}
@@ -88,8 +88,11 @@ expand_or_refuse g table leads tokens k r rest tables s =
               progress = IsProgress-expand g (take k tokens) (get_or tokens k end_mark) r d.a d.chosen rest s.steps tables.well_formed s.progress d.is d.only;
             };
           })
-      | inr none ↦ inr (k, refused_at g tokens k (Rule r ∷ rest) s.steps tables.well_formed s.within s.progress
-          (stuck_rule g (take k tokens) (get_or tokens k end_mark) r rest s.steps s.progress none))
+      | inr none ↦ inr (
+        k,
+        refused_at g tokens k (Rule r ∷ rest) s.steps tables.well_formed s.within s.progress
+            (stuck_rule g (take k tokens) (get_or tokens k end_mark) r rest s.steps s.progress none),
+      )
     ]
 
 -- once a token was taken, symbols are passed where each rule is
@@ -206,15 +209,18 @@ at_end : (g : Grammar) (tokens : List ℕ) (k : ℕ) → IsWellFormed g → Stat
 at_end g tokens k well s =
     elim (cases_eq (get_or tokens k end_mark) end_mark) [
       | inl is ↦ marked is (cases_lt k (length tokens))
-      | inr other ↦ only_refused g tokens (k, refused_at g tokens k (Token end_mark ∷ []) s.steps well s.within s.progress
-          (stuck_token g end_mark (get_or tokens k end_mark) [] (λ e. other (sym e))))
+      | inr other ↦ only_refused g tokens (
+        k,
+        refused_at g tokens k (Token end_mark ∷ []) s.steps well s.within s.progress
+            (stuck_token g end_mark (get_or tokens k end_mark) [] (λ e. other (sym e))),
+      )
     ]
   where
     marked : get_or tokens k end_mark ≡ end_mark → (k < length tokens) ⊎ (length tokens ≤ k) → Only g tokens
     marked is (inl inside) = only_refused g tokens (after_mark g tokens k well inside is s)
     marked is (inr past) =
         let d = done g tokens s.steps (subst (λ (x : ℕ). IsProgress g tokens x (Token end_mark ∷ []) s.steps) is
-            (subst (λ (l : List ℕ). IsProgress g l (get_or tokens k end_mark) (Token end_mark ∷ []) s.steps) (take_all k tokens past) s.progress)) in
+        (subst (λ (l : List ℕ). IsProgress g l (get_or tokens k end_mark) (Token end_mark ∷ []) s.steps) (take_all k tokens past) s.progress)) in
         only_tree g tokens s.steps d.0 d.1
 
 -- so each list has one reading

@@ -34,3 +34,13 @@ undecided =
 
 abbrev pub undecided_ranks : List ℕ
 undecided_ranks = 1 ∷ 0 ∷ 0 ∷ []
+
+-- A rule that leads back to itself past an option: text = [ "=" ] text name
+abbrev pub hidden_recursion : Grammar
+hidden_recursion =
+    ((Rule 1 ∷ Rule 0 ∷ Token 0 ∷ []) ∷ [])
+    ∷ ((Token 1 ∷ []) ∷ [] ∷ [])
+    ∷ []
+
+abbrev pub hidden_masks : MaskTable
+hidden_masks = (false, 4, 3) ∷ (true, 4, 4) ∷ []
