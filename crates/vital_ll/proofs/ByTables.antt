@@ -18,7 +18,7 @@ use Rattle.vital_ll.proofs.Progress.{all_named}
 use Rattle.vital_ll.proofs.Complete.{AreClosed, choice_marked}
 
 -- the token's bit is set
-abbrev Has : ℕ → ℕ → Type 0
+abbrev pub Has : ℕ → ℕ → Type 0
 Has m t = bit_at m (bit_of t) ≡ 1
 
 within_has : (a b t : ℕ) → is_within a b ≡ true → Has a t → Has b t
@@ -118,6 +118,12 @@ follows_has table after t b (Rule r ∷ before) rest s e h on =
 closed_at : (g : Grammar) (table : MaskTable) (r a : ℕ) (c : List Sym) → are_closed_from table 0 g ≡ true → alternative_of g r a ≡ Some c → RuleClosed table r c
 closed_at g table r a c e at = subst (λ (x : ℕ). RuleClosed table x c) (let f : 0 + r ≡ r = omega arith in f) (closed_from table 0 g r a c e at)
 
+-- a rule with an alternative of rules that can be empty can be empty
+pub empty_by_masks : (g : Grammar) (table : MaskTable) (r a : ℕ) (c : List Sym) → are_closed g table ≡ true → alternative_of g r a ≡ Some c →
+    empties (nullable_at table) c ≡ true → nullable_at table r ≡ true
+empty_by_masks g table r a c e is empty =
+    let p = and_parts (is_within 1 (follow_at table 0)) (are_closed_from table 0 g) e in (closed_at g table r a c p.1 is).empty empty
+
 marks_closed : (g : Grammar) (table : MaskTable) (t : ℕ) → are_closed g table ≡ true → AreClosed g (nullable_at table) (first_marks table t) (λ r. true) (follow_marks table t) t
 marks_closed g table t e =
     let p = and_parts (is_within 1 (follow_at table 0)) (are_closed_from table 0 g) e in
@@ -185,13 +191,19 @@ decides_pair table n (alternatives ∷ rules) (suc r) a b t c d e at bt ne h k =
     decides_pair table (n + 1) rules r a b t c d p.1 at bt ne
     (subst (λ (x : ℕ). Has (mask_of table (follow_at table x) c) t) f h) (subst (λ (x : ℕ). Has (mask_of table (follow_at table x) d) t) f k)
 
+-- the masks of two alternatives of a rule have no token in common
+pub masks_apart : (g : Grammar) (table : MaskTable) (r a b t : ℕ) (c d : List Sym) → decides g table ≡ true → alternative_of g r a ≡ Some c → alternative_of g r b ≡ Some d → (a ≡ b → ⊥) →
+    Has (choice_mask table r c) t → Has (choice_mask table r d) t → ⊥
+masks_apart g table r a b t c d apart is_c is_d ne h k =
+    let f : r ≡ 0 + r = omega arith in
+    decides_pair table 0 g r a b t c d apart is_c is_d ne
+    (subst (λ (x : ℕ). Has (mask_of table (follow_at table x) c) t) f h) (subst (λ (x : ℕ). Has (mask_of table (follow_at table x) d) t) f k)
+
 -- masks that are closed and do not meet show that the grammar is predictive
 pub predictive_by_masks : (g : Grammar) (table : MaskTable) → IsTrue (are_closed g table) → IsTrue (decides g table) → IsPredictive g
 predictive_by_masks g table closed apart r (a, b, t, ne, has_a, has_b) =
-    let f : r ≡ 0 + r = omega arith in
-    decides_pair table 0 g r a b t has_a.0 has_b.0 apart has_a.1 has_b.1 ne
-    (subst (λ (x : ℕ). Has (mask_of table (follow_at table x) has_a.0) t) f (mask_holds g table r a t has_a.0 closed has_a.1 has_a))
-    (subst (λ (x : ℕ). Has (mask_of table (follow_at table x) has_b.0) t) f (mask_holds g table r b t has_b.0 closed has_b.1 has_b))
+    masks_apart g table r a b t has_a.0 has_b.0 apart has_a.1 has_b.1 ne
+    (mask_holds g table r a t has_a.0 closed has_a.1 has_a) (mask_holds g table r b t has_b.0 closed has_b.1 has_b)
 
 -- symbols that name rules below n
 names_all : (n : ℕ) (symbols : List Sym) → names_below n symbols ≡ true → All (IsNamed n) symbols

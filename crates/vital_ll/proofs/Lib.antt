@@ -10,3 +10,6 @@ pub mod Passing
 pub mod Made
 pub mod Filling
 pub mod ByTables
+pub mod Leads
+pub mod Deciding
+pub mod Readings

@@ -1,6 +1,6 @@
 -- The state of reading: the tokens taken, the stack and the steps written.
-use Rattle.std.proofs.Common.{◌≡◌, ℕ, ◌+◌, ◌<◌, ◌≤◌, List, [], ◌∷◌, ◌++◌, length, reverse, take, get_or, Option, Some, None, sym, ap, ◌∙◌, subst, append_assoc, arith, Bool, true, false, IsTrue, IsSome, is_some, unwrap_or, ◌↔◌}
-use Rattle.std.proofs.lemmas.List.{reverse-append, take_more, take_all, get_or_past}
+use Rattle.std.proofs.Common.{◌≡◌, ℕ, ◌+◌, ◌<◌, ◌≤◌, List, [], ◌∷◌, ◌++◌, length, reverse, take, get_or, Option, Some, None, Err, sym, ap, ◌∙◌, subst, append_assoc, arith, Bool, true, false, IsTrue, IsSome, is_some, unwrap_or, ◌↔◌}
+use Rattle.std.proofs.lemmas.List.{reverse-append, take_all, get_or_past}
 use Rattle.std.proofs.lemmas.List.Elements.{All-head}
 use Rattle.vital_ll.specs.declared.grammar.Sym.{Sym}
 use Rattle.vital_ll.specs.declared.grammar.Sym.TheVariants.{Token, Rule}
@@ -8,18 +8,15 @@ use Rattle.vital_ll.specs.declared.derivation.Step.{Step}
 use Rattle.vital_ll.specs.Grammar.{Grammar, alternative_of}
 use Rattle.vital_ll.specs.Sentence.{end_mark, IsTreeOf, IsRefusedAt}
 use Rattle.vital_ll.specs.Choice.{IsChoice, IsNamed, IsWellFormed}
+use Rattle.vital_ll.specs.Readings.{IsReading}
 use Rattle.vital_ll.proofs.Deriving.{step}
-use Rattle.vital_ll.proofs.Progress.{IsProgress, IsProgress-start, IsProgress-take, IsProgress-expand, none_derives, refused_at, stuck_token, stuck_rule, done}
+use Rattle.vital_ll.proofs.Progress.{IsProgress, IsProgress-start, IsProgress-take_next, IsProgress-expand, none_derives, refused_at, stuck_token, stuck_rule, done}
 
 -- the symbols that are left stand on the stack, the first of them topmost, above the end mark
 pub record IsParsing (g : Grammar) (tokens : List ℕ) (taken : ℕ) (stack : List Sym) (steps : List Step) : Type 0 where
   pub well_formed : IsWellFormed g
   pub within : taken ≤ length tokens
   pub progress : IsProgress g (take taken tokens) (get_or tokens taken end_mark) (reverse stack ++ Token end_mark ∷ []) steps
-
--- no tree derives, and the token is the first that no sentence goes on with
-abbrev pub Refuses : Grammar → List ℕ → ℕ → Type 0
-Refuses g tokens k = ((tree : List Step) → IsTreeOf g tokens tree → ⊥) × IsRefusedAt g tokens k
 
 pub parsing_start : (g : Grammar) (tokens : List ℕ) (stack : List Sym) (steps : List Step) → IsWellFormed g → stack ≡ Rule 0 ∷ [] → steps ≡ [] →
     IsParsing g tokens 0 stack steps
@@ -34,11 +31,11 @@ popped : (g : Grammar) (tokens : List ℕ) (k : ℕ) (old new : List Sym) (x : S
 popped g tokens k old new x steps p e =
     subst (λ (l : List Sym). IsProgress g (take k tokens) (get_or tokens k end_mark) (l ++ Token end_mark ∷ []) steps) (ap reverse e ∙ reverse-append new (x ∷ [])) p.progress
 
-refuses : (g : Grammar) (tokens : List ℕ) (k : ℕ) → IsRefusedAt g tokens k → Refuses g tokens k
+refuses : (g : Grammar) (tokens : List ℕ) (k : ℕ) → IsRefusedAt g tokens k → IsReading g tokens (Err k)
 refuses g tokens k r = (none_derives g tokens k r, r)
 
 pub refused_token : (g : Grammar) (tokens : List ℕ) (k : ℕ) (old new : List Sym) (t : ℕ) (steps : List Step) → IsParsing g tokens k old steps → old ≡ new ++ Token t ∷ [] →
-    (t ≡ get_or tokens k end_mark → ⊥) → Refuses g tokens k
+    (t ≡ get_or tokens k end_mark → ⊥) → IsReading g tokens (Err k)
 refused_token g tokens k old new t steps p e other =
     refuses g tokens k (refused_at g tokens k _ steps p.well_formed p.within (popped g tokens k old new (Token t) steps p e) (stuck_token g t (get_or tokens k end_mark) (reverse new ++ Token end_mark ∷ []) other))
 
@@ -46,13 +43,10 @@ pub take_token : (g : Grammar) (tokens : List ℕ) (k : ℕ) (old new : List Sym
     k < length tokens → get_or tokens k end_mark ≡ t → IsParsing g tokens (k + 1) new steps
 take_token g tokens k old new t steps p e inside is =
     let q = popped g tokens k old new (Token t) steps p e in
-    let at_token = subst (λ (x : ℕ). IsProgress g (take k tokens) x (Token t ∷ (reverse new ++ Token end_mark ∷ [])) steps) is q in
-    let taken = IsProgress-take g (take k tokens) t (get_or tokens (k + 1) end_mark) (reverse new ++ Token end_mark ∷ []) steps at_token in
     record {
       well_formed = p.well_formed;
       within = omega arith;
-      progress = subst (λ (l : List ℕ). IsProgress g l (get_or tokens (k + 1) end_mark) (reverse new ++ Token end_mark ∷ []) steps)
-          (sym (take_more tokens k end_mark inside ∙ ap (λ (x : ℕ). take k tokens ++ x ∷ []) is)) taken;
+      progress = IsProgress-take_next g tokens k t (reverse new ++ Token end_mark ∷ []) steps inside is q;
     }
 
 pub rule_is_there : (g : Grammar) (tokens : List ℕ) (k : ℕ) (old new : List Sym) (r : ℕ) (steps : List Step) → IsParsing g tokens k old steps → old ≡ new ++ Rule r ∷ [] → r < length g
@@ -60,7 +54,7 @@ rule_is_there g tokens k old new r steps p e =
     All-head (IsNamed (length g)) (Rule r) (reverse new ++ Token end_mark ∷ []) (popped g tokens k old new (Rule r) steps p e).named
 
 pub refused_rule : (g : Grammar) (tokens : List ℕ) (k : ℕ) (old new : List Sym) (r next : ℕ) (steps : List Step) → IsParsing g tokens k old steps → old ≡ new ++ Rule r ∷ [] →
-    next ≡ get_or tokens k end_mark → ((a : ℕ) → IsChoice g r a next → ⊥) → Refuses g tokens k
+    next ≡ get_or tokens k end_mark → ((a : ℕ) → IsChoice g r a next → ⊥) → IsReading g tokens (Err k)
 refused_rule g tokens k old new r next steps p e is none =
     let q = popped g tokens k old new (Rule r) steps p e in
     let none_here = subst (λ (x : ℕ). (a : ℕ) → IsChoice g r a x → ⊥) is none in
@@ -90,7 +84,7 @@ at_end g tokens k stack steps p e =
     subst (λ (l : List Sym). IsProgress g (take k tokens) (get_or tokens k end_mark) (reverse l ++ Token end_mark ∷ []) steps) e p.progress
 
 pub refused_end : (g : Grammar) (tokens : List ℕ) (k : ℕ) (stack : List Sym) (steps : List Step) → IsParsing g tokens k stack steps → stack ≡ [] →
-    get_or tokens k end_mark < end_mark → Refuses g tokens k
+    get_or tokens k end_mark < end_mark → IsReading g tokens (Err k)
 refused_end g tokens k stack steps p e low =
     refuses g tokens k (refused_at g tokens k _ steps p.well_formed p.within (at_end g tokens k stack steps p e)
     (stuck_token g end_mark (get_or tokens k end_mark) [] (λ (same : end_mark ≡ get_or tokens k end_mark). omega arith)))

@@ -68,6 +68,16 @@ IsProgress-take g before t next rest steps p = record {
   named = All-tail (IsNamed (length g)) (Token t) rest p.named;
 }
 
+-- and is one more of the tokens
+pub IsProgress-take_next : (g : Grammar) (tokens : List ℕ) (k t : ℕ) (rest : List Sym) (steps : List Step) → k < length tokens → get_or tokens k end_mark ≡ t →
+    IsProgress g (take k tokens) (get_or tokens k end_mark) (Token t ∷ rest) steps →
+    IsProgress g (take (k + 1) tokens) (get_or tokens (k + 1) end_mark) rest steps
+IsProgress-take_next g tokens k t rest steps inside is p =
+    let at_token = subst (λ (x : ℕ). IsProgress g (take k tokens) x (Token t ∷ rest) steps) is p in
+    let taken = IsProgress-take g (take k tokens) t (get_or tokens (k + 1) end_mark) rest steps at_token in
+    subst (λ (l : List ℕ). IsProgress g l (get_or tokens (k + 1) end_mark) rest steps)
+    (sym (take_more tokens k end_mark inside ∙ ap (λ (x : ℕ). take k tokens ++ x ∷ []) is)) taken
+
 choice_cases : (g : Grammar) (next : ℕ) (more : List ℕ) (r a : ℕ) (chosen rest before : List Sym) → IsForm g (before ++ Rule r ∷ rest) →
     alternative_of g r a ≡ Some chosen → (us vs : List ℕ) (below after : List Step) → Derives g chosen us below → Derives g rest vs after →
     next ∷ more ≡ us ++ vs → IsChoice g r a next
@@ -210,3 +220,7 @@ pub stuck_rule : (g : Grammar) (before : List ℕ) (next r : ℕ) (rest : List S
 stuck_rule g before next r rest steps p none more tree d =
     let e = read_rule d in
     none e.a (choice_of g next more r e.a e.chosen rest (map Token before) e.after p.form e.is e.reads)
+
+-- after the end mark nothing is read
+pub stuck_end : (g : Grammar) (next : ℕ) (more : List ℕ) (tree : List Step) → Reads g [] (next ∷ more) tree → ⊥
+stuck_end g next more tree d = elim d [ ]

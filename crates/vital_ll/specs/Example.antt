@@ -19,6 +19,10 @@ example_masks = (true, 2, 1) ∷ (false, 2, 3) ∷ (true, 4, 8) ∷ []
 abbrev pub example_ranks : List ℕ
 example_ranks = 0 ∷ 1 ∷ 0 ∷ []
 
+-- the file leads with a line
+abbrev pub example_leads : List ℕ
+example_leads = 1 ∷ 0 ∷ 0 ∷ []
+
 -- Two rules that the next token does not decide: rule 1, where the empty alternative competes with what follows, and rule 2:
 -- text = [ name ] name tail ;  tail = "=" | "=" name
 abbrev pub undecided : Grammar
@@ -30,3 +34,13 @@ undecided =
 
 abbrev pub undecided_ranks : List ℕ
 undecided_ranks = 1 ∷ 0 ∷ 0 ∷ []
+
+-- A rule that leads back to itself past an option: text = [ "=" ] text name
+abbrev pub hidden_recursion : Grammar
+hidden_recursion =
+    ((Rule 1 ∷ Rule 0 ∷ Token 0 ∷ []) ∷ [])
+    ∷ ((Token 1 ∷ []) ∷ [] ∷ [])
+    ∷ []
+
+abbrev pub hidden_masks : MaskTable
+hidden_masks = (false, 4, 3) ∷ (true, 4, 4) ∷ []

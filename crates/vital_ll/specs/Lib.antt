@@ -2,6 +2,7 @@ pub mod Grammar
 pub mod Sentence
 pub mod Choice
 pub mod Table
+pub mod Readings
 pub mod Refusal
 pub mod Marks
 pub mod Listing
@@ -9,4 +10,5 @@ pub mod Passes
 pub mod Conflict
 pub mod Masks
 pub mod Ranks
+pub mod Leads
 pub mod Example

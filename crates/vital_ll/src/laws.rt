@@ -1,10 +1,13 @@
-ghost use Rattle.std.specs.Prelude.{◌≡◌, ℕ, List, Some, IsTrue};
+ghost use Rattle.std.specs.Prelude.{◌≡◌, ℕ, List, Some, Result, IsTrue};
 ghost use Rattle.std.specs.Int.{bit_at};
+ghost use Rattle.vital_ll.specs.declared.derivation.Step.{Step};
 ghost use Rattle.vital_ll.specs.declared.grammar.Sym.{Sym};
 ghost use Rattle.vital_ll.specs.Grammar.{Grammar, alternative_of};
 ghost use Rattle.vital_ll.specs.Choice.{IsChoice, IsPredictive, IsWellFormed};
 ghost use Rattle.vital_ll.specs.Masks.{MaskTable, are_closed, decides, choice_mask, bit_of};
 ghost use Rattle.vital_ll.specs.Ranks.{are_ranked};
+ghost use Rattle.vital_ll.specs.Leads.{has_no_left_recursion};
+ghost use Rattle.vital_ll.specs.Readings.{IsReading};
 
 /// Masks that are closed under the rules of a grammar hold every choice set: a law, called for its clause.
 pub fn masks_hold()
@@ -24,4 +27,17 @@ pub fn masks_decide()
 /// `Rules::make` may be called: a law, called for its clause.
 pub fn ranks_derive()
     ensures { (g : Grammar) (ranks : List ℕ) → IsTrue (are_ranked g ranks) → IsWellFormed g }
+{}
+
+/// Where closed masks do not meet, each rule derives something by ranks, and no rule leads back to itself by lead
+/// ranks, each list of tokens has one reading: it has one tree, or it has none and is refused at one token, which
+/// is the number that `parse` refuses it with: a law, called for its clause. A token here is any number, also that
+/// of the end mark, which stands in no sentence before its end.
+pub fn one_reading()
+    ensures { (g : Grammar) (table : MaskTable) (ranks leads : List ℕ)
+        → IsTrue (are_closed g table) → IsTrue (decides g table) → IsTrue (are_ranked g ranks)
+        → IsTrue (has_no_left_recursion g table leads)
+        → (tokens : List ℕ)
+        → (outcome : Result (List Step) ℕ) × IsReading g tokens outcome
+        × ((other : Result (List Step) ℕ) → IsReading g tokens other → other ≡ outcome) }
 {}

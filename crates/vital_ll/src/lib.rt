@@ -18,7 +18,7 @@ mod width;
 
 pub use derivation::{Step, Tree};
 pub use grammar::{Alternative, Rule, RuleList, Sym};
-pub use laws::{masks_decide, masks_hold, ranks_derive};
+pub use laws::{masks_decide, masks_hold, one_reading, ranks_derive};
 pub use prediction::{Rules, RulesError};
 pub use reading::{ParseError, parse};
 

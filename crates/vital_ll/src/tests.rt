@@ -1,5 +1,8 @@
-ghost use Rattle.std.specs.Prelude.{◌≡◌, IfOk};
-ghost use Rattle.vital_ll.specs.Example.{example, undecided};
+ghost use Rattle.std.specs.Prelude.{◌≡◌, ℕ, false, List, Result, IfOk};
+ghost use Rattle.vital_ll.specs.declared.derivation.Step.{Step};
+ghost use Rattle.vital_ll.specs.Leads.{has_no_left_recursion};
+ghost use Rattle.vital_ll.specs.Readings.{IsReading};
+ghost use Rattle.vital_ll.specs.Example.{example, undecided, hidden_recursion, hidden_masks};
 
 use super::*;
 use std::alloc::{AllocError, Global};
@@ -110,5 +113,26 @@ fn names_the_first_rule_that_is_not_decided(rt: HostRuntime) -> Result<(), Fail>
         Rules::make(rt.alloc(), &grammar).err(),
         Some(RulesError::NotPredictive { rule: 1 })
     );
+    Ok(())
+}
+
+/// The tables of the small grammar pass each test of the law.
+fn example_has_one_reading()
+    ensures { (tokens : List ℕ)
+        → (outcome : Result (List Step) ℕ) × IsReading example tokens outcome
+        × ((other : Result (List Step) ℕ) → IsReading example tokens other → other ≡ outcome) }
+{
+    one_reading();
+}
+
+/// text = [ "=" ] text name leads back to text past the option, so no lead ranks pass.
+fn hidden_recursion_has_no_lead_ranks()
+    ensures { (leads : List ℕ) → has_no_left_recursion hidden_recursion hidden_masks leads ≡ false }
+{}
+
+#[test]
+fn lead_ranks_show_that_each_list_has_one_reading(rt: HostRuntime) -> Result<(), Fail> {
+    example_has_one_reading();
+    hidden_recursion_has_no_lead_ranks();
     Ok(())
 }
