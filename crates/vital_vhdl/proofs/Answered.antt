@@ -1,8 +1,9 @@
 -- A file has one outcome: what a text's tokens and their derivation determine.
-use Rattle.std.proofs.Common.{◌≡◌, ℕ, List, length, Result, Ok, Err, sym, ap, subst, ◌∙◌, arith, inl, inr}
+use Rattle.std.proofs.Common.{◌≡◌, ℕ, List, length, Result, Ok, Err, refl, sym, ap, subst, ◌∙◌, arith, inl, inr}
 use Rattle.std.proofs.lemmas.Bool.{cases_lt}
 use Rattle.vital_ll.specs.declared.derivation.Step.{Step}
 use Rattle.vital_ll.specs.Grammar.{Grammar}
+use Rattle.vital_ll.specs.Readings as list
 use Rattle.vital_ll.specs.Sentence.{IsTreeOf, IsRefusedAt}
 use Rattle.vital_lex.specs.Outcome.{IsOutcome, Gives}
 use Rattle.vital_lex.specs.declared.faults.LexError.{LexError}
@@ -60,9 +61,9 @@ only_refusal file role text room tokens k only none first (Ok read) h =
 only_refusal file role text room tokens k only none first (Err (error.Lex f)) h = let e = only (Err f) h in absurd cc
 only_refusal file role text room tokens k only none first (Err (error.Refused place)) h =
     let same : h.tokens ≡ tokens = (let e = only (Ok h.tokens) h.lexed in cc) in
-    let number : h.refused.token ≡ k = one_refusal grammar (kinds_of tokens) h.refused.token k (subst (λ (ts : List Token). IsRefusedAt grammar (kinds_of ts) h.refused.token) same h.refused.first) first in
+    let number : h.token ≡ k = one_refusal grammar (kinds_of tokens) h.token k (subst (λ (ts : List Token). IsRefusedAt grammar (kinds_of ts) h.token) same h.refused.1) first in
     ap (λ (p : Place). Err (error.Refused p))
-    (h.refused.place_is ∙ ap (λ (ts : List Token). place_at file text (offset_of text ts h.refused.token)) same ∙ ap (λ (n : ℕ). place_at file text (offset_of text tokens n)) number)
+    (h.place_is ∙ ap (λ (ts : List Token). place_at file text (offset_of text ts h.token)) same ∙ ap (λ (n : ℕ). place_at file text (offset_of text tokens n)) number)
 only_refusal file role text room tokens k only none first (Err error.NoMemory) h = absurd h
 
 -- there is a derivation
@@ -78,5 +79,30 @@ only_units file role text room tokens tree only derived one (Ok read) h =
 only_units file role text room tokens tree only derived one (Err (error.Lex f)) h = let e = only (Err f) h in absurd cc
 only_units file role text room tokens tree only derived one (Err (error.Refused place)) h =
     let same : h.tokens ≡ tokens = (let e = only (Ok h.tokens) h.lexed in cc) in
-    absurd (h.refused.no_tree tree (subst (λ (ts : List Token). IsTreeOf grammar (kinds_of ts) tree) (sym same) derived))
+    absurd (h.refused.0 tree (subst (λ (ts : List Token). IsTreeOf grammar (kinds_of ts) tree) (sym same) derived))
 only_units file role text room tokens tree only derived one (Err error.NoMemory) h = absurd h
+
+-- ---- there is one
+
+-- something is so, and nothing else
+abbrev pub One : (A : Type 0) → (A → Type 0) → Type 0
+One A Is = (a : A) × Is a × ((other : A) → Is other → other ≡ a)
+
+-- a text with these tokens has one outcome
+one_of_tokens : (file : ℕ) (role : Role) (text : List ℕ) (room : ℕ) (tokens : List Token) → IsOutcome text room (Ok tokens) → OnlyLexed text room (Ok tokens)
+    → (read : Result (List Step) ℕ) → list.IsReading grammar (kinds_of tokens) read → ((other : Result (List Step) ℕ) → list.IsReading grammar (kinds_of tokens) other → other ≡ read)
+    → One (Result Units UnitError) (IsReading file role text room)
+one_of_tokens file role text room tokens lexed only_lexed (Ok tree) derived only =
+    (Ok (record { role = role; units = shape file text tokens tree; tokens = length tokens }),
+    record { tokens = tokens; lexed = lexed; tree = tree; derived = derived; units_are = refl },
+    only_units file role text room tokens tree only_lexed derived (λ other h. let e = only (Ok other) h in cc))
+one_of_tokens file role text room tokens lexed only_lexed (Err k) refused only =
+    (Err (error.Refused (place_at file text (offset_of text tokens k))),
+    record { tokens = tokens; lexed = lexed; token = k; refused = refused; place_is = refl },
+    only_refusal file role text room tokens k only_lexed refused.0 refused.1)
+
+-- and so has each text, as each list of kinds has one reading
+pub one_of_text : (file : ℕ) (role : Role) (text : List ℕ) (room : ℕ) → One Lexed (IsOutcome text room) → ((kinds : List ℕ) → One (Result (List Step) ℕ) (list.IsReading grammar kinds))
+    → One (Result Units UnitError) (IsReading file role text room)
+one_of_text file role text room (Ok tokens, lexed, only) each = let read = each (kinds_of tokens) in one_of_tokens file role text room tokens lexed only read.0 read.1 read.2
+one_of_text file role text room (Err fault, lexed, only) each = (Err (error.Lex fault), lexed, only_fault file role text room fault only)

@@ -1,6 +1,7 @@
--- The two tables of the grammar, evaluated.
+-- The three tables of the grammar, evaluated.
 use Rattle.std.proofs.Common.{refl}
 use Rattle.std.specs.Prelude.{IsTrue}
+use Rattle.vital_ll.specs.Leads.{has_no_left_recursion}
 use Rattle.vital_ll.specs.Masks.{are_closed, decides}
 use Rattle.vital_ll.specs.Ranks.{are_ranked}
 use Rattle.vital_vhdl.specs.DeclarationRules.{declaration_rules}
@@ -8,7 +9,7 @@ use Rattle.vital_vhdl.specs.ExpressionRules.{expression_rules}
 use Rattle.vital_vhdl.specs.Grammar.{grammar}
 use Rattle.vital_vhdl.specs.StatementRules.{statement_rules}
 use Rattle.vital_vhdl.specs.UnitRules.{unit_rules}
-use Rattle.vital_vhdl.specs.Tables.{masks, ranks}
+use Rattle.vital_vhdl.specs.Tables.{masks, ranks, leads}
 
 -- the masks are closed under the rules
 pub masks_closed : IsTrue (are_closed grammar masks)
@@ -24,3 +25,8 @@ masks_apart = refl
 pub ranks_lower : IsTrue (are_ranked grammar ranks)
 unfolding unit_rules declaration_rules statement_rules expression_rules
 ranks_lower = refl
+
+-- each alternative can lead with rules of lower rank alone
+pub leads_lower : IsTrue (has_no_left_recursion grammar masks leads)
+unfolding unit_rules declaration_rules statement_rules expression_rules
+leads_lower = refl

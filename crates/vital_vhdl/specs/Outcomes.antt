@@ -1,7 +1,7 @@
 -- What comes of reading a file: its units, or how it is refused.
 use Rattle.std.specs.Prelude.{◌≡◌, ℕ, List, length, map, slice_index_or, Result, Ok, Err}
 use Rattle.vital_ll.specs.declared.derivation.Step.{Step}
-use Rattle.vital_ll.specs.Sentence.{IsTreeOf, IsRefusedAt}
+use Rattle.vital_ll.specs.Readings as list
 use Rattle.vital_lex.specs.Outcome.{IsOutcome}
 use Rattle.vital_lex.specs.declared.token_list.Token.{Token}
 use Rattle.vital_base.specs.declared.place.Place.{Place}
@@ -21,25 +21,20 @@ kinds_of tokens = map (λ t. t.kind) tokens
 abbrev pub offset_of : List ℕ → List Token → ℕ → ℕ
 offset_of text tokens k = slice_index_or (map (λ t. t.start) tokens) k (length text)
 
--- no tree derives the tokens, and the place is that of the first one that no sentence goes on with
-pub record IsRefusedAtPlace (file : ℕ) (text : List ℕ) (tokens : List Token) (place : Place) : Type 0 where
-  pub no_tree : (tree : List Step) → IsTreeOf grammar (kinds_of tokens) tree → ⊥
-  pub token : ℕ
-  pub first : IsRefusedAt grammar (kinds_of tokens) token
-  pub place_is : place ≡ place_at file text (offset_of text tokens token)
-
--- the text has tokens, and the grammar refuses them at this place
+-- the text has tokens, the grammar refuses this one, and it stands at the place
 pub record IsRefusedText (file : ℕ) (text : List ℕ) (room : ℕ) (place : Place) : Type 0 where
   pub tokens : List Token
   pub lexed : IsOutcome text room (Ok tokens)
-  pub refused : IsRefusedAtPlace file text tokens place
+  pub token : ℕ
+  pub refused : list.IsReading grammar (kinds_of tokens) (Err token)
+  pub place_is : place ≡ place_at file text (offset_of text tokens token)
 
 -- the text has tokens, of which there is a tree, and these units are its shape
 pub record IsUnitsOf (file : ℕ) (role : Role) (text : List ℕ) (room : ℕ) (read : Units) : Type 0 where
   pub tokens : List Token
   pub lexed : IsOutcome text room (Ok tokens)
   pub tree : List Step
-  pub derived : IsTreeOf grammar (kinds_of tokens) tree
+  pub derived : list.IsReading grammar (kinds_of tokens) (Ok tree)
   pub units_are : read ≡ record { role = role; units = shape file text tokens tree; tokens = length tokens }
 
 -- what comes of a file

@@ -12,6 +12,7 @@ mod identifier_name;
 mod identifiers;
 mod interfaces;
 mod items;
+mod laws;
 mod nodes;
 mod operators;
 mod outermost;
@@ -32,6 +33,7 @@ pub use expr::{
     Reference, Relational, Sign, Suffix,
 };
 pub use identifier_name::IdentifierName;
+pub use laws::one_reading;
 pub use reading::{UnitError, read_units};
 pub use shared::Shared;
 pub use stmt::{Assignment, Block, Branch, Conc, Maps, Process, Stmt};
