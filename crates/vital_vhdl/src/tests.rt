@@ -13,7 +13,7 @@ use vital_lex::TextFault;
 /// A rule of the grammar, a text, and the line and the column of its first wrong token, which stands in that rule.
 type Refused = (&'static str, &'static [u8], (u32, u32));
 
-/// The reserved words (IEEE 1076-1993, 13.9).
+/// The 97 reserved words (IEEE 1076-1993, 13.9).
 const RESERVED_WORDS: &[u8] =
     b"abs access after alias all and architecture array assert attribute begin block body buffer bus case component configuration constant disconnect downto else elsif end entity exit file for function generate generic group guarded if impure in inertial inout is label library linkage literal loop map mod nand new next nor not null of on open or others out package port postponed procedure process pure range record register reject rem report return rol ror select severity signal shared sla sll sra srl subtype then to transport type unaffected units until use variable wait when while with xnor xor";
 
@@ -75,15 +75,12 @@ fn reads_each_rule(rt: HostRuntime) -> Result<(), Fail> {
 
 #[test]
 fn refuses_each_reserved_word_as_a_name(rt: HostRuntime) -> Result<(), Fail> {
-    let mut words = 0;
     for word in RESERVED_WORDS.split(|byte| *byte == b' ') {
         let mut text = Vec::from_slice(rt.alloc(), b"entity ")?;
         text.extend_from_slice(word)?;
         text.extend_from_slice(b" is end;")?;
         assert_eq!(rt; refusal(rt.alloc(), &text)?, Some((1, 8)));
-        words += 1;
     }
-    assert_eq!(rt; words, 97);
     Ok(())
 }
 
