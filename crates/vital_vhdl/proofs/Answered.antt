@@ -92,14 +92,16 @@ One A Is = (a : A) × Is a × ((other : A) → Is other → other ≡ a)
 one_of_tokens : (file : ℕ) (role : Role) (text : List ℕ) (room : ℕ) (tokens : List Token) → IsOutcome text room (Ok tokens) → OnlyLexed text room (Ok tokens)
     → (read : Result (List Step) ℕ) → list.IsReading grammar (kinds_of tokens) read → ((other : Result (List Step) ℕ) → list.IsReading grammar (kinds_of tokens) other → other ≡ read)
     → One (Result Units UnitError) (IsReading file role text room)
-one_of_tokens file role text room tokens lexed only_lexed (Ok tree) derived only =
-    (Ok (record { role = role; units = shape file text tokens tree; tokens = length tokens }),
-    record { tokens = tokens; lexed = lexed; tree = tree; derived = derived; units_are = refl },
-    only_units file role text room tokens tree only_lexed derived (λ other h. let e = only (Ok other) h in cc))
-one_of_tokens file role text room tokens lexed only_lexed (Err k) refused only =
-    (Err (error.Refused (place_at file text (offset_of text tokens k))),
-    record { tokens = tokens; lexed = lexed; token = k; refused = refused; place_is = refl },
-    only_refusal file role text room tokens k only_lexed refused.0 refused.1)
+one_of_tokens file role text room tokens lexed only_lexed (Ok tree) derived only = (
+  Ok (record { role = role; units = shape file text tokens tree; tokens = length tokens }),
+  record { tokens = tokens; lexed = lexed; tree = tree; derived = derived; units_are = refl },
+  only_units file role text room tokens tree only_lexed derived (λ other h. let e = only (Ok other) h in cc),
+)
+one_of_tokens file role text room tokens lexed only_lexed (Err k) refused only = (
+  Err (error.Refused (place_at file text (offset_of text tokens k))),
+  record { tokens = tokens; lexed = lexed; token = k; refused = refused; place_is = refl },
+  only_refusal file role text room tokens k only_lexed refused.0 refused.1,
+)
 
 -- and so has each text, as each list of kinds has one reading
 pub one_of_text : (file : ℕ) (role : Role) (text : List ℕ) (room : ℕ) → One Lexed (IsOutcome text room) → ((kinds : List ℕ) → One (Result (List Step) ℕ) (list.IsReading grammar kinds))

@@ -1,5 +1,5 @@
 -- Each token of a text has a well-formed name.
-use Rattle.std.proofs.Common.{◌≡◌, ℕ, Bool, true, not, ◌&&◌, ◌||◌, eqb, cond, List, [], ◌∷◌, ◌++◌, map, Option, Some, None, refl, ap, sym, subst, ◌∙◌, inl, inr, arith}
+use Rattle.std.proofs.Common.{◌≡◌, ℕ, Bool, true, not, ◌&&◌, ◌||◌, eqb, cond, List, [], ◌∷◌, map, Option, Some, None, refl, ap, sym, subst, ◌∙◌, inl, inr, arith}
 use Rattle.std.specs.Prelude.{nat_le, slice_range, All, unwrap_or}
 use Rattle.std.specs.Char.{to_ascii_lowercase}
 use Rattle.std.specs.List.{list_all}
@@ -15,7 +15,7 @@ use Rattle.vital_lex.specs.ReservedWords.{reserved_words}
 use Rattle.vital_lex.specs.declared.kinds.Kind.{Kind}
 use Rattle.vital_lex.specs.declared.kinds.Kind.TheVariants as kind
 use Rattle.vital_lex.specs.declared.token_list.Token.{Token}
-use Rattle.vital_vhdl.specs.IdentifierNames.{IsBasicName, IsIdentifierName, HaveNames, name_of, name_in, no_identifier}
+use Rattle.vital_vhdl.specs.IdentifierNames.{IsIdentifierName, HaveNames, name_of, name_in, no_identifier}
 use Rattle.vital_vhdl.specs.Reading.{no_token}
 
 -- ---- lower case

@@ -1,7 +1,7 @@
 -- What shapes are read from: the steps of a file's derivation, each with the alternative that was chosen, and its tokens. A
 -- reader takes from the fronts of both and answers a part of a shape. Where nothing is left, the next alternative is 0, and
 -- the next token is an empty one of no kind at the beginning of the file.
-use Rattle.std.specs.Prelude.{◌≡◌, ℕ, zero, suc, ◌==◌, Bool, true, false, if◌then◌else◌, List, [], ◌∷◌, ◌++◌, length, drop, map, slice_range, Result, Ok, Err}
+use Rattle.std.specs.Prelude.{◌≡◌, ℕ, zero, suc, ◌==◌, Bool, true, false, if◌then◌else◌, List, [], ◌∷◌, ◌++◌, length, drop, slice_range, Result, Ok, Err}
 use Rattle.vital_ll.specs.declared.derivation.Step.{Step}
 use Rattle.vital_lex.specs.declared.token_list.Token.{Token}
 use Rattle.vital_lex.specs.Places.{line_of, column_of}
