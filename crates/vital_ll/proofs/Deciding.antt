@@ -20,6 +20,7 @@ pub record Marked (table : MaskTable) (after t : ℕ) (alternative : ℕ → Opt
 abbrev pub Unmarked : MaskTable → ℕ → ℕ → (ℕ → Option (List Sym)) → Type 0
 Unmarked table after t alternative = (a : ℕ) (chosen : List Sym) → alternative a ≡ Some chosen → Has (mask_of table after chosen) t → ⊥
 
+-- one more that has no mark
 unmarked_more : (table : MaskTable) (after t : ℕ) (c : List Sym) (alternatives : List (List Sym)) → (Has (mask_of table after c) t → ⊥) →
     Unmarked table after t (slice_get alternatives) → Unmarked table after t (slice_get (c ∷ alternatives))
 unmarked_more table after t c alternatives here later zero d is h =
@@ -38,6 +39,7 @@ marked_or_none table after t (c ∷ alternatives) =
       ]
     ]
 
+-- the same of a rule that may be there
 marked_in : (table : MaskTable) (after t : ℕ) (rule : Option (List (List Sym))) →
     Marked table after t (λ a. option_and_then (λ alternatives. slice_get alternatives a) rule) ⊎ Unmarked table after t (λ a. option_and_then (λ alternatives. slice_get alternatives a) rule)
 marked_in table after t None = inr (λ a chosen is h. cc)
@@ -54,6 +56,7 @@ pub record Decided (g : Grammar) (r t : ℕ) : Type 0 where
   pub is : alternative_of g r a ≡ Some chosen
   pub only : (b : ℕ) → IsChoice g r b t → b ≡ a
 
+-- no other alternative than the marked one can be chosen
 only_marked : (g : Grammar) (table : MaskTable) (r t a b : ℕ) (chosen : List Sym) → are_closed g table ≡ true → decides g table ≡ true → alternative_of g r a ≡ Some chosen →
     Has (choice_mask table r chosen) t → IsChoice g r b t → b ≡ a
 only_marked g table r t a b chosen closed apart is has choice =

@@ -32,6 +32,7 @@ pub record State (g : Grammar) (tokens : List ℕ) (k : ℕ) (symbols : List Sym
   pub within : k ≤ length tokens
   pub progress : IsProgress g (take k tokens) (get_or tokens k end_mark) symbols steps
 
+-- some token is the first that no sentence goes on with
 abbrev Refusal : Grammar → List ℕ → Type 0
 Refusal g tokens = (k : ℕ) × IsRefusedAt g tokens k
 
@@ -113,6 +114,7 @@ pass_later g table leads tokens k empty rest tables later (Rule r ∷ symbols) k
       | inr refusal ↦ inr refusal
     ]
 
+-- an alternative's symbols past a rule that can be empty lead lower too
 cond_true : (b x : Bool) → cond b x true ≡ true → b ≡ true → x ≡ true
 cond_true true x e h = e
 cond_true false x e h = absurd (cc)
@@ -170,6 +172,7 @@ pass_rule g table leads tokens tables zero k r left rest s = let h : k ≤ lengt
 pass_rule g table leads tokens tables (suc n) k r left rest s =
     pass_ranked g table leads tokens k tables (λ j q more. pass_rule g table leads tokens tables n j q (omega arith)) (get_or leads r 0 + 1) r (omega arith) rest s
 
+-- one token is the first
 one_refusal : (g : Grammar) (tokens : List ℕ) (j k : ℕ) → IsRefusedAt g tokens j → IsRefusedAt g tokens k → j ≡ k
 one_refusal g tokens j k p q =
     elim (cases_lt j k) [
@@ -184,6 +187,7 @@ one_refusal g tokens j k p q =
 abbrev Only : Grammar → List ℕ → Type 0
 Only g tokens = (outcome : Result (List Step) ℕ) × IsReading g tokens outcome × ((other : Result (List Step) ℕ) → IsReading g tokens other → other ≡ outcome)
 
+-- what is refused at a token has no other reading
 only_refused : (g : Grammar) (tokens : List ℕ) → Refusal g tokens → Only g tokens
 only_refused g tokens (k, refused) = (Err k, (none_derives g tokens k refused, refused), one)
   where
@@ -191,6 +195,7 @@ only_refused g tokens (k, refused) = (Err k, (none_derives g tokens k refused, r
     one (Ok tree) h = absurd (none_derives g tokens k refused tree h)
     one (Err j) h = ap Err (one_refusal g tokens j k h.1 refused)
 
+-- nor has what one tree derives
 only_tree : (g : Grammar) (tokens : List ℕ) (tree : List Step) → IsTreeOf g tokens tree → ((other : List Step) → IsTreeOf g tokens other → other ≡ tree) → Only g tokens
 only_tree g tokens tree derives only = (Ok tree, derives, one)
   where

@@ -19,18 +19,18 @@ leads_lower table leads rank (Token u ∷ rest) = true
 leads_lower table leads rank (Rule r ∷ rest) =
     nat_lt (slice_index leads r) rank && (if nullable_at table r then leads_lower table leads rank rest else true)
 
--- the alternatives of a rule of this rank lead lower
-abbrev pub lead_lower : MaskTable → List ℕ → ℕ → List (List Sym) → Bool
-lead_lower table leads rank [] = true
-lead_lower table leads rank (c ∷ alternatives) =
-    names_kinds c && leads_lower table leads rank c && lead_lower table leads rank alternatives
+-- the alternatives of a rule of this rank name kinds of tokens and lead lower
+abbrev pub alternatives_lead_lower : MaskTable → List ℕ → ℕ → List (List Sym) → Bool
+alternatives_lead_lower table leads rank [] = true
+alternatives_lead_lower table leads rank (c ∷ alternatives) =
+    names_kinds c && leads_lower table leads rank c && alternatives_lead_lower table leads rank alternatives
 
 -- so do those of the rules from rule r on
-abbrev pub lead_lower_from : MaskTable → List ℕ → ℕ → Grammar → Bool
-lead_lower_from table leads r [] = true
-lead_lower_from table leads r (alternatives ∷ rules) =
-    lead_lower table leads (slice_index leads r) alternatives && lead_lower_from table leads (r + 1) rules
+abbrev pub rules_lead_lower : MaskTable → List ℕ → ℕ → Grammar → Bool
+rules_lead_lower table leads r [] = true
+rules_lead_lower table leads r (alternatives ∷ rules) =
+    alternatives_lead_lower table leads (slice_index leads r) alternatives && rules_lead_lower table leads (r + 1) rules
 
 -- each alternative names kinds of tokens and can lead with rules of lower rank alone, so that no rule leads back to itself
 abbrev pub has_no_left_recursion : Grammar → MaskTable → List ℕ → Bool
-has_no_left_recursion g table leads = lead_lower_from table leads 0 g
+has_no_left_recursion g table leads = rules_lead_lower table leads 0 g
