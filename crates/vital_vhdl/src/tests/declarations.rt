@@ -3,7 +3,7 @@
 use super::Refused;
 
 /// A rule, a text, and the line and column of its first token that the rule does not go on with.
-pub(super) static REFUSED: [Refused; 7] = [
+pub(super) static REFUSED: [Refused; 9] = [
     ("decls", b"package P is constant C : T; port", (1, 30)),
     ("decl", b"package P is constant C is", (1, 25)),
     ("attribute_rest", b"package P is attribute A is", (1, 26)),
@@ -11,6 +11,8 @@ pub(super) static REFUSED: [Refused; 7] = [
     ("class", b"package P is attribute A of B : port", (1, 33)),
     ("alias_sub", b"package P is alias A ;", (1, 22)),
     ("optional_is", b"package P is component C is is", (1, 29)),
+    ("decl", b"package P is signal in : B;", (1, 21)),
+    ("more_ids", b"package P is constant A, of : B;", (1, 26)),
 ];
 
 /// Texts that are read, in which each alternative of each rule is taken.

@@ -3,7 +3,7 @@
 use super::Refused;
 
 /// A rule, a text, and the line and column of its first token that the rule does not go on with.
-pub(super) static REFUSED: [Refused; 26] = [
+pub(super) static REFUSED: [Refused; 29] = [
     ("name", b"use all;", (1, 5)),
     ("suffixes", b"use a to", (1, 7)),
     ("selected", b"use a.(", (1, 7)),
@@ -118,6 +118,17 @@ pub(super) static REFUSED: [Refused; 26] = [
         (1, 53),
     ),
     ("id", b"entity 1", (1, 8)),
+    ("selected", b"use a.entity;", (1, 7)),
+    (
+        "ticked",
+        b"architecture A of E is begin process begin X'range",
+        (1, 46),
+    ),
+    (
+        "prim",
+        b"architecture A of E is begin process begin X := in;",
+        (1, 49),
+    ),
 ];
 
 /// Texts that are read, in which each alternative of each rule is taken.

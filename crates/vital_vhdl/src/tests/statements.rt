@@ -3,7 +3,7 @@
 use super::Refused;
 
 /// A rule, a text, and the line and column of its first token that the rule does not go on with.
-pub(super) static REFUSED: [Refused; 16] = [
+pub(super) static REFUSED: [Refused; 18] = [
     ("concs", b"architecture A of E is begin X; is", (1, 33)),
     ("conc", b"architecture A of E is begin null", (1, 30)),
     ("conc_rest", b"architecture A of E is begin X is", (1, 32)),
@@ -67,6 +67,12 @@ pub(super) static REFUSED: [Refused; 16] = [
         "else_part",
         b"architecture A of E is begin process begin if A then else elsif",
         (1, 59),
+    ),
+    ("concs", b"architecture A of E is begin label : P;", (1, 30)),
+    (
+        "labelled",
+        b"architecture A of E is begin L : entity",
+        (1, 34),
     ),
 ];
 

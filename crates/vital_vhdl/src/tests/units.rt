@@ -3,7 +3,7 @@
 use super::Refused;
 
 /// A rule, a text, and the line and column of its first token that the rule does not go on with.
-pub(super) static REFUSED: [Refused; 28] = [
+pub(super) static REFUSED: [Refused; 30] = [
     ("file", b"entity E is end; end", (1, 18)),
     ("more_ids", b"library a b;", (1, 11)),
     ("more_names", b"use a.b c;", (1, 9)),
@@ -40,6 +40,8 @@ pub(super) static REFUSED: [Refused; 28] = [
     ("entity", b"entity E is\n", (2, 1)),
     ("entity", b"entity E is\n port (A : B);\n port", (3, 2)),
     ("optional_id", b"entity E is end entity \\E\\ F;", (1, 28)),
+    ("iface", b"entity E is port (signal in : B);", (1, 26)),
+    ("arch", b"architecture A of architecture is", (1, 19)),
 ];
 
 /// Texts that are read, in which each alternative of each rule is taken.
