@@ -5,7 +5,7 @@ use crate::shared::Shared;
 use sqlite_items::Items;
 
 /// `range`, the left bound, the direction and the right bound.
-#[derive(Drop)]
+#[derive(Debug, Drop)]
 pub struct Bounds {
     pub left: Expr,
     pub direction: Direction,
@@ -13,7 +13,7 @@ pub struct Bounds {
 }
 
 /// A type's name, and its range if one is written.
-#[derive(Drop)]
+#[derive(Debug, Drop)]
 pub struct Subtype {
     pub name: Reference,
     pub range: Option<Bounds>,
@@ -37,7 +37,7 @@ pub enum Mode {
 }
 
 /// What stands around the identifiers of an interface.
-#[derive(Drop)]
+#[derive(Debug, Drop)]
 pub struct IfaceParts {
     pub class: Option<IfaceClass>,
     /// `in` where none is written.
@@ -49,7 +49,7 @@ pub struct IfaceParts {
 }
 
 /// A generic or a port: one for each identifier, and those that are declared together share their parts.
-#[derive(Drop)]
+#[derive(Debug, Drop)]
 pub struct Iface {
     pub identifier: Identifier,
     pub parts: Shared<IfaceParts>,
@@ -64,14 +64,14 @@ pub enum ObjectClass {
 }
 
 /// What stands after the identifiers of an object.
-#[derive(Drop)]
+#[derive(Debug, Drop)]
 pub struct ObjectParts {
     pub subtype: Subtype,
     pub value: Option<Expr>,
 }
 
 /// What an attribute is specified of.
-#[derive(Drop)]
+#[derive(Debug, Drop)]
 pub enum Designator {
     Identifier(Identifier),
     All,
@@ -89,7 +89,7 @@ pub enum EntityClass {
 }
 
 /// `attribute X of D : class is value`.
-#[derive(Drop)]
+#[derive(Debug, Drop)]
 pub struct Specification {
     pub identifier: Identifier,
     pub designator: Designator,
@@ -98,7 +98,7 @@ pub struct Specification {
 }
 
 /// `alias X : subtype is name`.
-#[derive(Drop)]
+#[derive(Debug, Drop)]
 pub struct Alias {
     pub identifier: Identifier,
     pub subtype: Option<Subtype>,
@@ -106,7 +106,7 @@ pub struct Alias {
 }
 
 /// A component with its generics and ports.
-#[derive(Drop)]
+#[derive(Debug, Drop)]
 pub struct Component {
     pub identifier: Identifier,
     pub generics: Items<Iface>,
@@ -114,7 +114,7 @@ pub struct Component {
 }
 
 /// A declaration: one for each identifier.
-#[derive(Drop)]
+#[derive(Debug, Drop)]
 pub enum Decl {
     /// `attribute X : type`.
     Attribute(Identifier, Reference),

@@ -74,7 +74,7 @@ pub struct Physical {
 /// An expression. A chain of operators of one level is one node, so that an expression is nested no deeper than its
 /// parentheses, but for the levels of operators between them.
 #[cycle(expr)]
-#[derive(Drop)]
+#[derive(Debug, Drop)]
 pub enum Expr {
     /// Two or more relations with one logical operator between them.
     Logical(Place, Logical, Items<Expr>),
@@ -102,7 +102,7 @@ pub enum Expr {
 
 /// A name: an identifier, and what follows it (IEEE 1076-1993, clause 6).
 #[cycle(expr)]
-#[derive(Drop)]
+#[derive(Debug, Drop)]
 pub struct Reference {
     /// The place of the identifier.
     pub place: Place,
@@ -113,7 +113,7 @@ pub struct Reference {
 
 /// A part of a name after its identifier.
 #[cycle(expr)]
-#[derive(Drop)]
+#[derive(Debug, Drop)]
 pub enum Suffix {
     /// `.` and an identifier.
     Selected(Identifier),
@@ -129,7 +129,7 @@ pub enum Suffix {
 
 /// An item of a list in parentheses: an association, an element of an aggregate, an index or a slice.
 #[cycle(expr)]
-#[derive(Drop)]
+#[derive(Debug, Drop)]
 pub enum Item {
     /// `others`, at its place, and its value.
     Others(Place, Boxed<Expr>),
@@ -143,7 +143,7 @@ pub enum Item {
 
 /// A value or a range.
 #[cycle(expr)]
-#[derive(Drop)]
+#[derive(Debug, Drop)]
 pub enum Choice {
     Value(Expr),
     /// The left bound, the direction and the right bound.
@@ -152,7 +152,7 @@ pub enum Choice {
 
 /// What an arrow points from.
 #[cycle(expr)]
-#[derive(Drop)]
+#[derive(Debug, Drop)]
 pub enum Actual {
     Value(Expr),
     /// `open`, at its place.

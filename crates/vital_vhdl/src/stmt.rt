@@ -6,7 +6,7 @@ use sqlite_items::Items;
 use vital_base::Place;
 
 /// A target, the value that it is given, and after how long if that is written.
-#[derive(Drop)]
+#[derive(Debug, Drop)]
 pub struct Assignment {
     pub target: Reference,
     pub value: Expr,
@@ -15,7 +15,7 @@ pub struct Assignment {
 
 /// A condition, and the statements that are executed where it holds.
 #[cycle(stmt)]
-#[derive(Drop)]
+#[derive(Debug, Drop)]
 pub struct Branch {
     pub condition: Expr,
     pub statements: Items<Stmt>,
@@ -23,7 +23,7 @@ pub struct Branch {
 
 /// A statement of a process.
 #[cycle(stmt)]
-#[derive(Drop)]
+#[derive(Debug, Drop)]
 pub enum Stmt {
     /// `target := value`.
     Assign(Place, Reference, Expr),
@@ -37,7 +37,7 @@ pub enum Stmt {
 }
 
 /// A process from its keyword on.
-#[derive(Drop)]
+#[derive(Debug, Drop)]
 pub struct Process {
     /// The place of its keyword.
     pub place: Place,
@@ -48,7 +48,7 @@ pub struct Process {
 }
 
 /// The associations of a component instance. A list is empty where it is not written.
-#[derive(Drop)]
+#[derive(Debug, Drop)]
 pub struct Maps {
     pub generics: Items<Item>,
     pub ports: Items<Item>,
@@ -56,7 +56,7 @@ pub struct Maps {
 
 /// A block from its keyword on.
 #[cycle(conc)]
-#[derive(Drop)]
+#[derive(Debug, Drop)]
 pub struct Block {
     pub declarations: Items<Decl>,
     pub statements: Items<Conc>,
@@ -64,7 +64,7 @@ pub struct Block {
 
 /// A concurrent statement.
 #[cycle(conc)]
-#[derive(Drop)]
+#[derive(Debug, Drop)]
 pub enum Conc {
     /// A process, after its label if it has one.
     Process(Place, Option<Identifier>, Process),

@@ -7,7 +7,7 @@ use sqlite_items::Items;
 use vital_base::{List, Place};
 
 /// An entity declaration.
-#[derive(Drop)]
+#[derive(Debug, Drop)]
 pub struct Entity {
     pub place: Place,
     pub identifier: Identifier,
@@ -18,7 +18,7 @@ pub struct Entity {
 }
 
 /// An architecture body.
-#[derive(Drop)]
+#[derive(Debug, Drop)]
 pub struct Arch {
     pub place: Place,
     pub identifier: Identifier,
@@ -29,7 +29,7 @@ pub struct Arch {
 }
 
 /// A package declaration.
-#[derive(Drop)]
+#[derive(Debug, Drop)]
 pub struct Pack {
     pub place: Place,
     pub identifier: Identifier,
@@ -37,7 +37,7 @@ pub struct Pack {
 }
 
 /// A configuration declaration.
-#[derive(Drop)]
+#[derive(Debug, Drop)]
 pub struct Config {
     pub place: Place,
     pub identifier: Identifier,
@@ -48,7 +48,7 @@ pub struct Config {
 }
 
 /// A unit of a file.
-#[derive(Drop)]
+#[derive(Debug, Drop)]
 pub enum Unit {
     Entity(Entity),
     Arch(Arch),
@@ -64,7 +64,7 @@ pub enum Role {
 }
 
 /// The units of a file, in order.
-#[derive(Drop)]
+#[derive(Debug, Drop)]
 pub struct Units {
     pub role: Role,
     pub units: List<Unit>,
