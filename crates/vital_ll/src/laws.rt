@@ -29,10 +29,10 @@ pub fn ranks_derive()
     ensures { (g : Grammar) (ranks : List ℕ) → IsTrue (are_ranked g ranks) → IsWellFormed g }
 {}
 
-/// Where closed masks do not meet, each rule derives something by ranks, and no rule leads back to itself by lead
-/// ranks, each list of tokens has one reading: it has one tree, or it has none and is refused at one token, which
-/// is the number that `parse` refuses it with: a law, called for its clause. A token here is any number, also that
-/// of the end mark, which stands in no sentence before its end.
+/// Each list of tokens has one reading: its one tree or, where it has none, the one token that it is refused at. So
+/// the tokens alone say what `parse` answers, but for want of memory. What shows it is closed masks that do not meet,
+/// ranks, and lead ranks, whose test also says that each token that a rule names is a kind of token: a law, called for
+/// its clause. A token of the list is any number, also that of the end mark, which no sentence has before its end.
 pub fn one_reading()
     ensures { (g : Grammar) (table : MaskTable) (ranks leads : List ℕ)
         → IsTrue (are_closed g table) → IsTrue (decides g table) → IsTrue (are_ranked g ranks)
