@@ -1,0 +1,4 @@
+pub mod Units
+pub mod Faults
+pub mod Gathered
+pub mod Positions
