@@ -7,6 +7,7 @@ use Rattle.vital_vhdl.specs.declared.unit.Entity.{Entity}
 use Rattle.vital_vhdl.specs.declared.unit.Unit.{Unit as Unit'}
 use Rattle.vital_vhdl.specs.declared.unit.Units.{Units}
 use Rattle.vital_library.specs.declared.position.Position.{Position}
+use Rattle.vital_library.specs.declared.unit_at.UnitAt.{UnitAt}
 use Rattle.vital_library.specs.Units.{as_entity, as_arch}
 
 -- The unit at a position.
@@ -26,3 +27,10 @@ numbered_from file number units = map (λ u. (record { file = file; unit = u.0 }
 -- The units of files, each with its position.
 abbrev pub numbered : List Units → List (Position × Unit')
 numbered files = flat_map (λ f. numbered_from f.0 0 f.1.units) (enumerate_from 0 files)
+
+-- Units that were seen, each with its position; and the units alone.
+abbrev pub seen : UnitAt → Position × Unit'
+seen at = (at.position, at.unit.now)
+
+abbrev pub units_in : List UnitAt → List Unit'
+units_in units = map (λ at. at.unit.now) units
