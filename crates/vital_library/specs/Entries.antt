@@ -12,12 +12,9 @@ use Rattle.std.specs.declared.hash.FoldHasher.{FoldHasher}
 use Rattle.vital_vhdl.specs.declared.unit.Entity.{Entity}
 use Rattle.vital_vhdl.specs.declared.unit.Unit.{Unit as Unit'}
 use Rattle.vital_vhdl.specs.declared.unit.Unit.TheVariants as unit
-use Rattle.vital_vhdl.specs.declared.unit.Units.{Units}
 use Rattle.vital_library.specs.declared.entry.Entry.{Entry}
 use Rattle.vital_library.specs.declared.position.Position.{Position}
-use Rattle.vital_library.specs.Units.{as_entity, entities, archs_of}
-use Rattle.vital_library.specs.Gathered.{gathered}
-use Rattle.vital_library.specs.Positions.{entity_at, arch_at}
+use Rattle.vital_library.specs.Units.{as_entity}
 
 -- A unit is an architecture of the entity of a name.
 abbrev pub is_arch_of : List ℕ → Unit' → Bool
@@ -49,9 +46,3 @@ with_group groups u = (u.0, group_of groups u.1.identifier.name)
 -- What is kept of units.
 abbrev pub entries_among : List (Position × Unit') → List (Position × List Position)
 entries_among units = map (λ u. (u.0, positions_of_archs u.1.identifier.name units)) (entities_with_positions units)
-
--- The entries are those of a library's files, which have no fault.
-pub record AreEntriesOf (entries : List Entry) (files : List Units) : Type 0 where
-  pub entities_there : map (λ entry. entity_at files entry.position) entries ≡ map (λ entity. Some entity) (entities files)
-  pub archs_there : map (λ entry. map (arch_at files) entry.archs.items) entries ≡ map (λ entity. map (λ arch. Some arch) (archs_of entity.identifier.name files)) (entities files)
-  pub sound : gathered files ≡ Ok files

@@ -5,3 +5,4 @@ pub mod Limits
 pub mod Positions
 pub mod Names
 pub mod Entries
+pub mod Kept
