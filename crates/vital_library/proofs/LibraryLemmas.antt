@@ -6,6 +6,7 @@ use Rattle.std.specs.Option.{option_map, option_map_or, option_and_then}
 use Rattle.std.specs.Str.{bytes_eq}
 use Rattle.std.proofs.lemmas.List.{length-map}
 use Rattle.std.proofs.lemmas.Option.{slice_get_past, slice_get-map, slice_get-get_or}
+use Rattle.std.proofs.lemmas.List.Sums.{length-filter, count_by-le-length}
 use Rattle.std.proofs.lemmas.Simd.{map-map}
 use Rattle.vital_base.specs.declared.place.Place.{Place}
 use Rattle.vital_vhdl.specs.declared.unit.Arch.{Arch}
@@ -141,3 +142,92 @@ kept files units entries sound at e =
       entities_there = kept-entities files us entries (stand files) e' ∙ ap (λ vs. map (λ entity. Some entity) (entities_among vs)) (numbered-units files);
       archs_there = kept-archs files us entries (stand files) e' ∙ ap (λ vs. map (λ entity. archs-named entity.identifier.name vs) (entities_among vs)) (numbered-units files);
     }
+
+-- ---- what an entry tells
+pub get-none : {A : Type 0} (xs : List A) (k : ℕ) → slice_get xs k ≡ None → k < length xs → ⊥
+get-none [] k h within = omega arith
+get-none (x ∷ xs) zero h within = cc
+get-none (x ∷ xs) (suc k) h within = get-none xs k h (omega arith)
+
+abbrev joined : {A : Type 0} → Option (Option A) → Option A
+joined o = option_and_then (λ p. p) o
+
+joined-some : {A : Type 0} (o : Option A) → joined (option_map (λ x. Some x) o) ≡ o
+joined-some None = refl
+joined-some (Some x) = refl
+
+at-map : {A B : Type 0} (f : A → Option B) (xs : List A) (ys : List B) (k : ℕ) (x : A) → map f xs ≡ map (λ y. Some y) ys → k < length xs → x ≡ get_or xs k x → f x ≡ slice_get ys k
+at-map f xs ys k x e within is =
+    let here : slice_get xs k ≡ Some x = slice_get-get_or xs k x within ∙ ap (λ z. Some z) (sym is) in
+    ap (λ o. joined (option_map f o)) (sym here)
+    ∙ ap joined (sym (slice_get-map f xs k) ∙ ap (λ zs. slice_get zs k) e ∙ slice_get-map (λ y. Some y) ys k)
+    ∙ joined-some (slice_get ys k)
+
+same-count : {A B C : Type 0} (f : A → C) (g : B → C) (xs : List A) (ys : List B) → map f xs ≡ map g ys → length xs ≡ length ys
+same-count f g xs ys e = sym (length-map xs f) ∙ ap length e ∙ length-map ys g
+
+module _ (entries : List Entry) (files : List Units) (lib : IsLibrary entries files) where
+  pub entry-count : length entries ≡ length (entities files)
+  entry-count = same-count (λ entry. entity_at files entry.position) (λ entity. Some entity) entries (entities files) lib.entities_there
+
+  module _ (k : ℕ) (entry : Entry) (there : k < length (entities files)) (is : entry ≡ get_or entries k entry) where
+    within : k < length entries
+    within = omega (arith, entry-count, there)
+
+    pub entity-found : entity_at files entry.position ≡ slice_get (entities files) k
+    entity-found = at-map (λ e. entity_at files e.position) entries (entities files) k entry lib.entities_there within is
+
+    of-entity : (o : Option Entity) → Some (map (arch_at files) entry.archs.items) ≡ option_map (λ e. map (λ arch. Some arch) (archs_of e.identifier.name files)) o → map (arch_at files) entry.archs.items ≡ map (λ arch. Some arch) (option_map_or (λ e. archs_of e.identifier.name files) o [])
+    of-entity None h = absurd (cc)
+    of-entity (Some e) h = cc
+
+    archs-found : map (arch_at files) entry.archs.items ≡ map (λ arch. Some arch) (archs_of_entity k files)
+    archs-found =
+        let here : slice_get entries k ≡ Some entry = slice_get-get_or entries k entry within ∙ ap (λ z. Some z) (sym is) in
+        of-entity (slice_get (entities files) k)
+        (ap (option_map (λ e. map (arch_at files) e.archs.items)) (sym here)
+        ∙ sym (slice_get-map (λ e. map (arch_at files) e.archs.items) entries k)
+        ∙ ap (λ zs. slice_get zs k) lib.archs_there
+        ∙ slice_get-map (λ e. map (λ arch. Some arch) (archs_of e.identifier.name files)) (entities files) k)
+
+    pub archs-count : length entry.archs.items ≡ length (archs_of_entity k files)
+    archs-count = same-count (arch_at files) (λ arch. Some arch) entry.archs.items (archs_of_entity k files) archs-found
+
+    pub arch-found : (j : ℕ) (position : Position) → j < length (archs_of_entity k files) → position ≡ get_or entry.archs.items j position → arch_at files position ≡ slice_get (archs_of_entity k files) j
+    arch-found j position lt at = at-map (arch_at files) entry.archs.items (archs_of_entity k files) j position archs-found (omega (arith, archs-count, lt)) at
+
+-- ---- no more than the limit
+few-where_none : (units : List Unit') (n : ℕ) (files : List Units) (extra : Option Unit') → slice_get units n ≡ extra → limited files extra ≡ Ok files → length units ≤ n
+few-where_none [] n files extra is h = omega arith
+few-where_none (u ∷ units) zero files None is h = absurd (cc)
+few-where_none (u ∷ units) zero files (Some extra) is h = absurd (cc)
+few-where_none (u ∷ units) (suc n) files extra is h =
+    let rest = few-where_none units n files extra is h in
+    omega (arith, rest)
+
+few-units : (files : List Units) → gathered files ≡ Ok files → length (units_of files) ≤ 4096
+few-units files h = few-where_none (units_of files) 4096 files (slice_get (units_of files) 4096) refl h
+
+few-chosen : {A B : Type 0} (f : A → Option B) (xs : List A) → length (filter_map f xs) ≤ length xs
+few-chosen f [] = omega arith
+few-chosen {B = B} f (x ∷ xs) = step (f x) (few-chosen f xs)
+  where
+    step : (o : Option B) → length (filter_map f xs) ≤ length xs → length (cons_option o (filter_map f xs)) ≤ suc (length xs)
+    step None h = omega arith
+    step (Some y) h = omega arith
+
+few-kept : {A : Type 0} (p : A → Bool) (xs : List A) → length (filter p xs) ≤ length xs
+few-kept p xs = omega (arith, length-filter p xs, count_by-le-length p xs)
+
+pub few-entities : (files : List Units) → gathered files ≡ Ok files → length (entities files) ≤ 4096
+few-entities files sound = omega (arith, few-units files sound, few-chosen as_entity (units_of files))
+
+few-named : (name : List ℕ) (files : List Units) → gathered files ≡ Ok files → length (archs_of name files) ≤ 4096
+few-named name files sound = omega (arith, few-units files sound, few-chosen as_arch (units_of files), few-kept (is-of name) (archs_among (units_of files)))
+
+pub few-archs : (files : List Units) (k : ℕ) → gathered files ≡ Ok files → length (archs_of_entity k files) ≤ 4096
+few-archs files k sound = step (slice_get (entities files) k)
+  where
+    step : (o : Option Entity) → length (option_map_or (λ entity. archs_of entity.identifier.name files) o []) ≤ 4096
+    step None = omega arith
+    step (Some e) = few-named e.identifier.name files sound

@@ -13,3 +13,6 @@ mod unit_at;
 
 pub use error::{LibraryError, MOST_UNITS};
 pub use library::{Library, gather};
+
+#[cfg(test)]
+mod tests;
