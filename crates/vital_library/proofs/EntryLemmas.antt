@@ -1,8 +1,7 @@
 -- What is kept of entities.
 use Rattle.std.proofs.Common.{◌≡◌, ℕ, true, false, List, [], ◌∷◌, ◌++◌, map, refl, sym, ◌∙◌, ap, append-nil}
-use Rattle.std.specs.Prelude.{Bool, cond, Option, Some, None, filter}
-use Rattle.std.specs.List.{filter_map, cons_option, AllByRecursion}
-use Rattle.std.specs.Option.{option_map, option_map_or, option_and_then}
+use Rattle.std.specs.Prelude.{Bool, cond, Option, Some, None}
+use Rattle.std.specs.Option.{option_map, option_map_or}
 use Rattle.std.specs.Str.{bytes_eq}
 use Rattle.std.specs.Borrow.{Bor}
 use Rattle.std.specs.Cmp.Lexicographic.{bytes_decides}
@@ -13,16 +12,10 @@ use Rattle.std.specs.declared.hash.BuildHasherDefault.{BuildHasherDefault}
 use Rattle.std.specs.declared.hash.FoldHasher.{FoldHasher}
 use Rattle.std.proofs.lemmas.List.{map-append}
 use Rattle.std.proofs.lemmas.List.Elements.{filter_map-append}
-use Rattle.std.proofs.lemmas.Simd.{map-map}
-use Rattle.vital_vhdl.specs.declared.unit.Arch.{Arch}
-use Rattle.vital_vhdl.specs.declared.unit.Entity.{Entity}
 use Rattle.vital_vhdl.specs.declared.unit.Unit.{Unit as Unit'}
-use Rattle.vital_vhdl.specs.declared.unit.Unit.TheVariants as variant
-use Rattle.vital_vhdl.specs.declared.unit.Units.{Units}
 use Rattle.vital_library.specs.declared.position.Position.{Position}
-use Rattle.vital_library.specs.Entries.{is_arch_of, positions_of_archs, group_of, entities_with_positions, entries_among, with_group}
-use Rattle.vital_library.specs.Positions.{unit_at, entity_at, arch_at}
-use Rattle.vital_library.specs.Units.{as_entity, as_arch, entities_among, archs_among}
+use Rattle.vital_library.specs.Entries.{positions_of_archs, group_of, entities_with_positions, entries_among, with_group}
+use Rattle.vital_library.specs.Units.{as_entity}
 
 abbrev pub Groups : Type 0
 Groups = HashMap (Bor (List ℕ)) (Vec Position Global) (BuildHasherDefault FoldHasher)

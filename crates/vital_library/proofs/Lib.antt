@@ -1,3 +1,4 @@
+mod Rows
 pub mod NameLemmas
 pub mod Steps
 pub mod FaultLemmas

@@ -1,5 +1,5 @@
 -- What is kept of files tells their entities and architectures.
-use Rattle.std.proofs.Common.{◌≡◌, ℕ, zero, suc, ◌<◌, ◌≤◌, true, false, List, [], ◌∷◌, ◌++◌, map, length, get_or, refl, sym, ◌∙◌, ap, arith}
+use Rattle.std.proofs.Common.{◌≡◌, ℕ, zero, suc, ◌<◌, ◌≤◌, true, false, List, [], ◌∷◌, map, length, get_or, refl, sym, ◌∙◌, ap, arith}
 use Rattle.std.specs.Prelude.{Bool, cond, Option, Some, None, filter, Result, Ok, Err}
 use Rattle.std.specs.List.{filter_map, cons_option, AllByRecursion, slice_get}
 use Rattle.std.specs.Option.{option_map, option_map_or, option_and_then}
@@ -27,10 +27,10 @@ use Rattle.vital_library.specs.Faults.{faults, least_of}
 use Rattle.vital_library.specs.Gathered.{refusal, judged, limited, gathered, GivesLibrary}
 use Rattle.vital_library.specs.Kept.{IsLibrary}
 use Rattle.vital_library.specs.Limits.{IsPastLimit}
-use Rattle.vital_library.specs.Positions.{unit_at, entity_at, arch_at, seen, numbered, units_in}
+use Rattle.vital_library.specs.Positions.{unit_at, entity_at, arch_at, seen, numbered}
 use Rattle.vital_library.specs.Units.{units_of, place_of, as_entity, as_arch, entities_among, archs_among, entities, archs_of, archs_of_entity}
 use Rattle.vital_library.proofs.EntryLemmas.{map-same}
-use Rattle.vital_library.proofs.NumberedLemmas.{Stands, stand, numbered-units, seen-units}
+use Rattle.vital_library.proofs.NumberedLemmas.{Stands, stand, numbered-units}
 
 abbrev Placed : Type 0
 Placed = List (Position × Unit')

@@ -1,12 +1,11 @@
 -- Units up to the limit.
-use Rattle.std.proofs.Common.{◌≡◌, ℕ, zero, suc, ◌+◌, ◌<◌, ◌≤◌, List, [], ◌∷◌, ◌++◌, length, take, drop, map, get_or, refl, sym, ◌∙◌, ap, append_assoc, append-nil, arith, length-append}
+use Rattle.std.proofs.Common.{◌≡◌, ℕ, zero, suc, ◌+◌, ◌<◌, ◌≤◌, List, [], ◌∷◌, ◌++◌, length, take, drop, map, get_or, sym, ◌∙◌, ap, append-nil, arith, length-append}
 use Rattle.std.proofs.Common.{subst}
 use Rattle.std.proofs.lemmas.Grind.{flat_map-append}
 use Rattle.std.proofs.lemmas.List.{take_more, take-append-drop, length-map}
-use Rattle.std.specs.Prelude.{Option, Some, None, Result, Ok, Err}
-use Rattle.std.specs.List.{slice_get, flat_map}
+use Rattle.std.specs.Prelude.{Some}
+use Rattle.std.specs.List.{slice_get}
 use Rattle.std.specs.Option.{option_map}
-use Rattle.vital_base.specs.declared.place.Place.{Place}
 use Rattle.vital_vhdl.specs.declared.unit.Unit.{Unit as Unit'}
 use Rattle.vital_vhdl.specs.declared.unit.Units.{Units}
 use Rattle.vital_library.specs.declared.error.LibraryError.{LibraryError}

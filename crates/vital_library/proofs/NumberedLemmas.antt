@@ -1,18 +1,17 @@
 -- Units with their positions.
-use Rattle.std.proofs.Common.{◌≡◌, ℕ, zero, suc, ◌+◌, ◌<◌, ◌≤◌, List, [], ◌∷◌, ◌++◌, length, take, drop, map, get_or, refl, sym, ◌∙◌, ap, subst, append_assoc, append-nil, arith, length-append}
-use Rattle.std.specs.Prelude.{Option, Some, None}
+use Rattle.std.proofs.Common.{◌≡◌, ℕ, suc, ◌+◌, ◌<◌, List, [], ◌∷◌, ◌++◌, length, take, map, get_or, refl, sym, ◌∙◌, ap, subst, append_assoc, append-nil, arith}
+use Rattle.std.specs.Prelude.{Some}
 use Rattle.std.specs.List.{enumerate_from, flat_map, slice_get, AllByRecursion}
-use Rattle.std.specs.Option.{option_map, option_and_then}
+use Rattle.std.specs.Option.{option_and_then}
 use Rattle.std.proofs.lemmas.List.{map-append, take_more, length-take-le, length_push}
 use Rattle.std.proofs.lemmas.Grind.{flat_map-append}
 use Rattle.std.proofs.lemmas.Simd.{map-map}
-use Rattle.vital_base.specs.declared.place.Place.{Place}
 use Rattle.vital_vhdl.specs.declared.unit.Unit.{Unit as Unit'}
 use Rattle.vital_vhdl.specs.declared.unit.Units.{Units}
 use Rattle.vital_library.specs.declared.position.Position.{Position}
 use Rattle.vital_library.specs.declared.unit_at.UnitAt.{UnitAt}
 use Rattle.vital_library.specs.Positions.{unit_at, numbered_from, numbered, seen, units_in}
-use Rattle.vital_library.specs.Units.{units_of, place_of}
+use Rattle.vital_library.specs.Units.{units_of}
 
 abbrev placed : ℕ → ℕ × Unit' → Position × Unit'
 placed file = λ u. (record { file = file; unit = u.0 }, u.1)

@@ -1,5 +1,5 @@
 -- What a library keeps of its entities, beside its files.
-use Rattle.std.specs.Prelude.{◌≡◌, ℕ, List, [], Option, Some, None, Result, Ok, map, filter, Bool, false}
+use Rattle.std.specs.Prelude.{ℕ, List, [], map, filter, Bool, false}
 use Rattle.std.specs.List.{filter_map}
 use Rattle.std.specs.Option.{option_map, option_map_or}
 use Rattle.std.specs.Str.{bytes_eq}

@@ -1,5 +1,5 @@
 -- What comes of gathering files: a library, or how they are refused.
-use Rattle.std.specs.Prelude.{◌≡◌, ℕ, List, Option, Some, None, Result, Ok, Err}
+use Rattle.std.specs.Prelude.{◌≡◌, List, Option, Some, None, Result, Ok, Err}
 use Rattle.std.specs.List.{slice_get}
 use Rattle.vital_base.specs.declared.place.Place.{Place}
 use Rattle.vital_vhdl.specs.declared.unit.Unit.{Unit as Unit'}

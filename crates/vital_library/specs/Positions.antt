@@ -1,5 +1,5 @@
 -- Where units stand among the files of a library.
-use Rattle.std.specs.Prelude.{ℕ, List, Option, Some, None, map}
+use Rattle.std.specs.Prelude.{ℕ, List, Option, map}
 use Rattle.std.specs.List.{slice_get, enumerate_from, flat_map}
 use Rattle.std.specs.Option.{option_and_then}
 use Rattle.vital_vhdl.specs.declared.unit.Arch.{Arch}

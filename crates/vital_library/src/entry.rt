@@ -31,7 +31,12 @@ pub fn entries<'a>(alloc: Global, units: &'a [UnitAt<'a>]) -> Result<Vec<Entry>,
 }
 
 /// Puts the entry of a unit at the end if it is an entity.
-fn put_entity<'a>(alloc: Global, entries: &mut Vec<Entry>, groups: &HashMap<&'a [u8], Vec<Position>>, at: &'a UnitAt<'a>) -> Result<(), AllocError>
+fn put_entity<'a>(
+    alloc: Global,
+    entries: &mut Vec<Entry>,
+    groups: &HashMap<&'a [u8], Vec<Position>>,
+    at: &'a UnitAt<'a>,
+) -> Result<(), AllocError>
     ensures { OnOk result (map shown entries.new.items ≡ map shown entries.old.items ++ map (with_group groups.now) (entities_with_positions (seen at.now ∷ []))) }
 {
     if let Unit::Entity(entity) = at.unit {
@@ -45,7 +50,10 @@ fn put_entity<'a>(alloc: Global, entries: &mut Vec<Entry>, groups: &HashMap<&'a 
 }
 
 /// The positions of all architectures by the names of their entities.
-fn archs_by_entity<'a>(alloc: Global, units: &'a [UnitAt<'a>]) -> Result<HashMap<&'a [u8], Vec<Position>>, AllocError>
+fn archs_by_entity<'a>(
+    alloc: Global,
+    units: &'a [UnitAt<'a>],
+) -> Result<HashMap<&'a [u8], Vec<Position>>, AllocError>
     ensures { IfOk result (λ groups. (name : List ℕ) → group_of groups name ≡ positions_of_archs name (map seen units.now)) }
 {
     let mut groups: HashMap<&'a [u8], Vec<Position>> = HashMap::new(alloc);
@@ -56,7 +64,11 @@ fn archs_by_entity<'a>(alloc: Global, units: &'a [UnitAt<'a>]) -> Result<HashMap
 }
 
 /// Puts the position of a unit under the name of its entity if it is an architecture.
-fn put_arch<'a>(alloc: Global, groups: &mut HashMap<&'a [u8], Vec<Position>>, at: &'a UnitAt<'a>) -> Result<(), AllocError>
+fn put_arch<'a>(
+    alloc: Global,
+    groups: &mut HashMap<&'a [u8], Vec<Position>>,
+    at: &'a UnitAt<'a>,
+) -> Result<(), AllocError>
     ensures { OnOk result ((name : List ℕ) → group_of groups.new name ≡ group_of groups.old name ++ positions_of_archs name (seen at.now ∷ [])) }
 {
     if let Unit::Arch(arch) = at.unit {
@@ -66,7 +78,12 @@ fn put_arch<'a>(alloc: Global, groups: &mut HashMap<&'a [u8], Vec<Position>>, at
 }
 
 /// Puts a position at the end of those under a name.
-fn put_position<'a>(alloc: Global, groups: &mut HashMap<&'a [u8], Vec<Position>>, name: &'a [u8], position: Position) -> Result<(), AllocError>
+fn put_position<'a>(
+    alloc: Global,
+    groups: &mut HashMap<&'a [u8], Vec<Position>>,
+    name: &'a [u8],
+    position: Position,
+) -> Result<(), AllocError>
     ensures { OnOk result ((q : List ℕ) → group_of groups.new q ≡ group_of groups.old q ++ (if bytes_eq name.now q then position ∷ [] else [])) }
 {
     let mut group = match groups.remove(name) {
@@ -79,7 +96,11 @@ fn put_position<'a>(alloc: Global, groups: &mut HashMap<&'a [u8], Vec<Position>>
 }
 
 /// A copy of the positions under a name.
-fn group<'a>(alloc: Global, groups: &HashMap<&'a [u8], Vec<Position>>, name: &'a [u8]) -> Result<Vec<Position>, AllocError>
+fn group<'a>(
+    alloc: Global,
+    groups: &HashMap<&'a [u8], Vec<Position>>,
+    name: &'a [u8],
+) -> Result<Vec<Position>, AllocError>
     ensures { IfOk result (λ group. group.items ≡ group_of groups.now name.now) }
 {
     match groups.get(name) {

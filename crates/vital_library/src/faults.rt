@@ -67,7 +67,11 @@ fn put_entity<'a>(names: &mut HashSet<&'a [u8]>, unit: &'a Unit) -> Result<(), A
 }
 
 /// The least fault so far, or the least of the architectures of entities that the names lack.
-fn least_without_entity<'a>(mut least: Option<Fault>, names: &HashSet<&'a [u8]>, units: &'a [UnitAt<'a>]) -> Option<Fault>
+fn least_without_entity<'a>(
+    mut least: Option<Fault>,
+    names: &HashSet<&'a [u8]>,
+    units: &'a [UnitAt<'a>],
+) -> Option<Fault>
     ensures { result ≡ fold sooner least (map no_entity (without_name names.now (units_in units.now))) }
 {
     for at in units {
@@ -77,7 +81,11 @@ fn least_without_entity<'a>(mut least: Option<Fault>, names: &HashSet<&'a [u8]>,
 }
 
 /// The least fault so far, or that of a unit if it is an architecture of an entity that the names lack.
-fn sooner_without_entity<'a>(least: Option<Fault>, names: &HashSet<&'a [u8]>, unit: &'a Unit) -> Option<Fault>
+fn sooner_without_entity<'a>(
+    least: Option<Fault>,
+    names: &HashSet<&'a [u8]>,
+    unit: &'a Unit,
+) -> Option<Fault>
     ensures { result ≡ fold sooner least (map no_entity (without_name names.now (unit.now ∷ []))) }
 {
     match unit {
@@ -87,7 +95,11 @@ fn sooner_without_entity<'a>(least: Option<Fault>, names: &HashSet<&'a [u8]>, un
 }
 
 /// The least fault so far, or that of an architecture if the names lack its entity.
-fn sooner_of_arch<'a>(least: Option<Fault>, names: &HashSet<&'a [u8]>, arch: &'a Arch) -> Option<Fault>
+fn sooner_of_arch<'a>(
+    least: Option<Fault>,
+    names: &HashSet<&'a [u8]>,
+    arch: &'a Arch,
+) -> Option<Fault>
     ensures { result ≡ (if has_name names.now arch.now.entity.name then least else sooner least (no_entity arch.now)) }
 {
     if names.contains(arch.entity.name.as_slice()) {

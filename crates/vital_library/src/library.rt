@@ -26,7 +26,6 @@ impl Model for Library {
     ghost use Rattle.vital_library.specs.Kept.{IsLibrary};
     ghost use Rattle.vital_vhdl.specs.declared.unit.Units.{Units};
     ghost use Rattle.std.specs.Prelude.{List};
-
     ghost use Rattle.vital_vhdl.specs.contracts.unit.Units as units;
     ghost use Rattle.std.specs.Coded.{codes};
 

@@ -68,7 +68,11 @@ pub fn put_name<'a>(names: &mut HashSet<&'a [u8]>, name: &'a [u8]) -> Result<boo
 }
 
 /// Puts the names of an entity and of its architecture into a set, and says whether they were not there.
-fn put_names<'a>(names: &mut HashSet<(&'a [u8], &'a [u8])>, entity: &'a [u8], arch: &'a [u8]) -> Result<bool, AllocError>
+fn put_names<'a>(
+    names: &mut HashSet<(&'a [u8], &'a [u8])>,
+    entity: &'a [u8],
+    arch: &'a [u8],
+) -> Result<bool, AllocError>
     ensures added { IfOk result (λ added. added ≡ not (has_names names.old entity.now arch.now)) }
     ensures names { OnOk result ((p q : List ℕ) → has_names names.new p q ≡ ((bytes_eq entity.now p && bytes_eq arch.now q) || has_names names.old p q)) }
 {

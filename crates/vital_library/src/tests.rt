@@ -44,28 +44,94 @@ fn no_entity(file: u32, line: u32, column: u32) -> Option<LibraryError> {
 fn refuses_the_fault_with_the_least_place(rt: HostRuntime) -> Result<(), Fail> {
     let rows: [([&[u8]; 2], Option<LibraryError>); 17] = [
         ([b"", b""], None),
-        ([b"entity A is end; entity a is end;", b""], duplicate(0, 1, 25)),
-        ([b"entity A is end;", b"\n entity A is end;"], duplicate(1, 2, 9)),
-        ([b"entity A is end;\npackage A is end;", b""], duplicate(0, 2, 9)),
-        ([b"configuration A of E is for B end for; end;", b"package A is end;"], duplicate(1, 1, 9)),
+        (
+            [b"entity A is end; entity a is end;", b""],
+            duplicate(0, 1, 25),
+        ),
+        (
+            [b"entity A is end;", b"\n entity A is end;"],
+            duplicate(1, 2, 9),
+        ),
+        (
+            [b"entity A is end;\npackage A is end;", b""],
+            duplicate(0, 2, 9),
+        ),
+        (
+            [
+                b"configuration A of E is for B end for; end;",
+                b"package A is end;",
+            ],
+            duplicate(1, 1, 9),
+        ),
         ([b"entity A is end; entity \\A\\ is end;", b""], None),
         (
-            [b"entity E is end; architecture A of E is begin end; architecture a of e is begin end;", b""],
+            [
+                b"entity E is end; architecture A of E is begin end; architecture a of e is begin end;",
+                b"",
+            ],
             duplicate(0, 1, 65),
         ),
         (
-            [b"entity D is end; entity E is end;", b"architecture A of D is begin end; architecture A of E is begin end;"],
+            [
+                b"entity D is end; entity E is end;",
+                b"architecture A of D is begin end; architecture A of E is begin end;",
+            ],
             None,
         ),
-        ([b"entity E is end; package A is end; architecture A of E is begin end;", b""], None),
-        ([b"configuration A of E is for A end for; end;", b"entity E is end; architecture A of E is begin end;"], None),
-        ([b"architecture A of E is begin end;", b"entity E is end;"], None),
-        ([b"architecture A of E is begin end;", b""], no_entity(0, 1, 19)),
-        ([b"package E is end;", b"architecture A of E is begin end;"], no_entity(1, 1, 19)),
-        ([b"architecture A of E is begin end;", b"package P is end; package P is end;"], no_entity(0, 1, 19)),
-        ([b"package P is end; package P is end;", b"architecture A of E is begin end;"], duplicate(0, 1, 27)),
-        ([b"package P is end;\narchitecture A of E is begin end; package P is end;", b""], no_entity(0, 2, 19)),
-        ([b"architecture A of E is begin end;\narchitecture A of E is begin end;", b"entity E is end;"], duplicate(0, 2, 14)),
+        (
+            [
+                b"entity E is end; package A is end; architecture A of E is begin end;",
+                b"",
+            ],
+            None,
+        ),
+        (
+            [
+                b"configuration A of E is for A end for; end;",
+                b"entity E is end; architecture A of E is begin end;",
+            ],
+            None,
+        ),
+        (
+            [b"architecture A of E is begin end;", b"entity E is end;"],
+            None,
+        ),
+        (
+            [b"architecture A of E is begin end;", b""],
+            no_entity(0, 1, 19),
+        ),
+        (
+            [b"package E is end;", b"architecture A of E is begin end;"],
+            no_entity(1, 1, 19),
+        ),
+        (
+            [
+                b"architecture A of E is begin end;",
+                b"package P is end; package P is end;",
+            ],
+            no_entity(0, 1, 19),
+        ),
+        (
+            [
+                b"package P is end; package P is end;",
+                b"architecture A of E is begin end;",
+            ],
+            duplicate(0, 1, 27),
+        ),
+        (
+            [
+                b"package P is end;\narchitecture A of E is begin end; package P is end;",
+                b"",
+            ],
+            no_entity(0, 2, 19),
+        ),
+        (
+            [
+                b"architecture A of E is begin end;\narchitecture A of E is begin end;",
+                b"entity E is end;",
+            ],
+            duplicate(0, 2, 14),
+        ),
     ];
     for (texts, found) in rows {
         assert_eq!(rt; refusal(rt.alloc(), &texts)?, found);
@@ -96,7 +162,10 @@ fn entities_and_their_architectures_stand_in_order(rt: HostRuntime) -> Result<()
             if arch >= library.arch_count(entity) {
                 return Err(Fail::from("too few architectures"));
             }
-            assert_eq!(rt; library.arch(entity, arch).identifier.name.as_slice(), *arch_name);
+            assert_eq!(rt;
+                library.arch(entity, arch).identifier.name.as_slice(),
+                *arch_name
+            );
             arch = arch.wrapping_add(1);
         }
         assert_eq!(rt; library.arch_count(entity), arch);
@@ -121,6 +190,9 @@ fn refuses_the_first_unit_past_the_limit(rt: HostRuntime) -> Result<(), Fail> {
     assert_eq!(rt; refusal(rt.alloc(), &[most.as_bytes()])?, None);
     let place = at(1, 1, 2);
     let more: [&[u8]; 2] = [most.as_bytes(), b" package P0 is end;"];
-    assert_eq!(rt; refusal(rt.alloc(), &more)?, Some(LibraryError::TooManyUnits { place }));
+    assert_eq!(rt;
+        refusal(rt.alloc(), &more)?,
+        Some(LibraryError::TooManyUnits { place })
+    );
     Ok(())
 }

@@ -54,16 +54,25 @@ fn file_number(number: usize) -> Result<u32, LibraryError>
 }
 
 /// Puts the units of one file at the end.
-fn put_units<'a>(all: &mut Vec<UnitAt<'a>>, file: u32, units: &'a [Unit]) -> Result<(), LibraryError>
+fn put_units<'a>(
+    all: &mut Vec<UnitAt<'a>>,
+    file: u32,
+    units: &'a [Unit],
+) -> Result<(), LibraryError>
     requires { length all.old.items ≤ MOST_UNITS }
     ensures units { OnOk result (map seen all.new.items ≡ map seen all.old.items ++ numbered_from file 0 units.now) }
     ensures limit { IsLimited result (map (λ at. at.unit.now) all.old.items ++ units.now) }
 {
     for (number, unit) in units.iter().enumerate() {
         if all.len() == MOST_UNITS as usize {
-            return Err(LibraryError::TooManyUnits { place: place_of(unit) });
+            return Err(LibraryError::TooManyUnits {
+                place: place_of(unit),
+            });
         }
-        let position = Position { file, unit: number as u32 };
+        let position = Position {
+            file,
+            unit: number as u32,
+        };
         all.push(UnitAt { position, unit })?;
     }
     Ok(())

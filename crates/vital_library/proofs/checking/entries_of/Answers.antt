@@ -1,4 +1,4 @@
-use Rattle.std.proofs.Common.{◌≡◌, sym, ◌∙◌, ap, map}
+use Rattle.std.proofs.Common.{sym, ◌∙◌, ap, map}
 use Rattle.vital_library.specs.Entries.{entries_among}
 use Rattle.vital_library.specs.Faults.{faults, least_of}
 use Rattle.vital_library.specs.Positions.{seen, units_in}

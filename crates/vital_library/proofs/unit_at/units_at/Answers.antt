@@ -1,8 +1,8 @@
-use Rattle.std.proofs.Common.{◌≡◌, map, ◌++◌, ◌∙◌, ap, sym, arith, take, length, rules, subst}
+use Rattle.std.proofs.Common.{◌++◌, ◌∙◌, ap, sym, arith, take, subst}
 use Rattle.std.proofs.lemmas.List.{take_all}
 use Rattle.std.proofs.lemmas.Result.{err_from_is_err_and}
 use Rattle.vital_library.specs.Limits.{IsPastLimit}
-use Rattle.vital_library.specs.Positions.{seen, numbered, numbered_from, units_in}
+use Rattle.vital_library.specs.Positions.{numbered, numbered_from, units_in}
 use Rattle.vital_library.proofs.NumberedLemmas.{numbered-take}
 use Rattle.vital_library.proofs.LimitLemmas.{past-file, few-kept, few-all}
 use Rattle.vital_library.proofs.unit_at.units_at.Goals as goal
@@ -18,11 +18,11 @@ loop-number-preserved c =
     let f = c.index-files-number.result in
     record {
       units =
-        c.in_ok-put_units.ensures.units
-        ∙ ap (λ us. us ++ numbered_from c.in_ok-file_number.field-0 0 c.as_slice.result.now) c.loop-number.invariant.units
-        ∙ ap (λ n. numbered (take c.loop-number.number c.args.files.now) ++ numbered_from n 0 c.as_slice.result.now) c.in_ok-file_number.ensures
-        ∙ ap (λ us. numbered (take c.loop-number.number c.args.files.now) ++ numbered_from c.loop-number.number 0 us) c.as_slice.ensures
-        ∙ sym (numbered-take c.args.files.now c.loop-number.number f (omega arith) c.index-files-number.is);
+          c.in_ok-put_units.ensures.units
+          ∙ ap (λ us. us ++ numbered_from c.in_ok-file_number.field-0 0 c.as_slice.result.now) c.loop-number.invariant.units
+          ∙ ap (λ n. numbered (take c.loop-number.number c.args.files.now) ++ numbered_from n 0 c.as_slice.result.now) c.in_ok-file_number.ensures
+          ∙ ap (λ us. numbered (take c.loop-number.number c.args.files.now) ++ numbered_from c.loop-number.number 0 us) c.as_slice.ensures
+          ∙ sym (numbered-take c.args.files.now c.loop-number.number f (omega arith) c.index-files-number.is);
       limit = few-kept old _ c.in_ok-file_number.field-0 c.as_slice.result.now c.in_ok-put_units.ensures.units c.in_ok-put_units.ensures.limit;
     }
 

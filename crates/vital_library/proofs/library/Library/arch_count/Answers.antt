@@ -15,6 +15,6 @@ returns c =
     let inside = c.self.inside in
     let there = subst (λ files. c.args.entity < length (entities files)) (sym c.self.view_is) c.requires in
     let count =
-      archs-count inside.entries.items inside.files c.self.invariant c.args.entity c.index.result.now there c.index.ensures
-      ∙ ap (λ files. length (archs_of_entity c.args.entity files)) c.self.view_is in
+    archs-count inside.entries.items inside.files c.self.invariant c.args.entity c.index.result.now there c.index.ensures
+    ∙ ap (λ files. length (archs_of_entity c.args.entity files)) c.self.view_is in
     omega (arith, count)
