@@ -11,20 +11,21 @@ use Rattle.vital_library.specs.declared.fault.FaultKind.TheVariants.{Duplicate, 
 use Rattle.vital_library.specs.Units.{identifier_of, entities_among, archs_among}
 
 -- Two units have one name in one space of names. Entities, packages and configurations share a space; the architectures of
--- each entity have one of their own (IEEE 1076-1993, 11.2).
+-- each entity have one of their own (IEEE 1076-1993, 11.1).
 abbrev pub shares_name : Unit' → Unit' → Bool
 shares_name (unit.Arch v) (unit.Arch w) = bytes_eq v.entity.name w.entity.name && bytes_eq v.identifier.name w.identifier.name
 shares_name (unit.Arch v) w = false
 shares_name v (unit.Arch w) = false
 shares_name v w = bytes_eq (identifier_of v).name (identifier_of w).name
 
--- The units that share a name with an earlier one, which may be one of those seen before them.
+-- Those of the units that share a name with an earlier one, where those seen stand before them all.
 abbrev pub duplicates_after : List Unit' → List Unit' → List Unit'
 duplicates_after seen [] = []
 duplicates_after seen (w ∷ others) =
     if list_any (λ v. shares_name v w) seen then w ∷ duplicates_after (seen ++ w ∷ []) others
     else duplicates_after (seen ++ w ∷ []) others
 
+-- The units that share a name with an earlier one.
 abbrev pub duplicates : List Unit' → List Unit'
 duplicates units = duplicates_after [] units
 
@@ -51,7 +52,7 @@ faults units = map duplicate (duplicates units) ++ map no_entity (without_entity
 abbrev pub is_before : Place → Place → Bool
 is_before a b = nat_lt a.file b.file || (a.file == b.file && (nat_lt a.line b.line || (a.line == b.line && nat_lt a.column b.column)))
 
--- The one of two faults that stands before the other; the first of them at one place.
+-- The one of two faults that stands before the other; at one place the first of them.
 abbrev pub sooner : Option Fault → Fault → Option Fault
 sooner None fault = Some fault
 sooner (Some least) fault = if is_before fault.place least.place then Some fault else Some least

@@ -15,7 +15,7 @@ pub enum LibraryError {
     /// There are more than [`MOST_UNITS`] units. The first too many begins at the place.
     TooManyUnits { place: Place },
     /// The identifier at the place names an entity, a package or a configuration as an earlier one of these is named, or an
-    /// architecture as an earlier one of the same entity is (IEEE 1076-1993, 11.2).
+    /// architecture as an earlier one of the same entity is (IEEE 1076-1993, 11.1).
     Duplicate { place: Place },
     /// The identifier at the place, after `of`, names an entity of which no file has a declaration (IEEE 1076-1993, 1.2).
     NoEntity { place: Place },

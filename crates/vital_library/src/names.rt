@@ -1,6 +1,6 @@
 //! The names of units.
 
-ghost use Rattle.std.specs.Prelude.{◌≡◌, ◌&&◌, ◌||◌, ℕ, false, not, List, IfOk, OnOk, map};
+ghost use Rattle.std.specs.Prelude.{◌≡◌, ◌&&◌, ◌||◌, ℕ, false, not, List, IfOk, OnOk};
 ghost use Rattle.std.specs.Str.{bytes_eq};
 ghost use Rattle.vital_vhdl.specs.declared.unit.Unit.{Unit as Unit'};
 ghost use Rattle.vital_library.specs.Faults.{shares_name};

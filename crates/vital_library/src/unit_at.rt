@@ -1,12 +1,9 @@
 //! The units of files with their positions.
 
-ghost use Rattle.std.specs.Prelude.{◌≡◌, ◌≤◌, ◌<◌, ◌++◌, List, length, map, IfOk, OnOk, MatchResult, Some, None};
-ghost use Rattle.std.specs.List.{slice_get};
-ghost use Rattle.std.specs.Option.{option_map};
-ghost use Rattle.vital_library.specs.Positions.{seen};
-ghost use Rattle.vital_library.specs.Positions.{numbered, numbered_from};
-ghost use Rattle.vital_library.specs.Units.{place_of, units_of};
+ghost use Rattle.std.specs.Prelude.{◌≡◌, ◌≤◌, ◌++◌, length, map, IfOk, OnOk, MatchResult};
 ghost use Rattle.vital_library.specs.Limits.{IsLimited};
+ghost use Rattle.vital_library.specs.Positions.{numbered, numbered_from, seen, units_in};
+ghost use Rattle.vital_library.specs.Units.{place_of, units_of};
 ghost use Rattle.vital_library.specs.declared.error.LibraryError.TheVariants.{NoMemory};
 
 use crate::error::{LibraryError, MOST_UNITS};
@@ -61,7 +58,7 @@ fn put_units<'a>(
 ) -> Result<(), LibraryError>
     requires { length all.old.items ≤ MOST_UNITS }
     ensures units { OnOk result (map seen all.new.items ≡ map seen all.old.items ++ numbered_from file 0 units.now) }
-    ensures limit { IsLimited result (map (λ at. at.unit.now) all.old.items ++ units.now) }
+    ensures limit { IsLimited result (units_in all.old.items ++ units.now) }
 {
     for (number, unit) in units.iter().enumerate() {
         if all.len() == MOST_UNITS as usize {
