@@ -1,0 +1,76 @@
+//! The units of files with their positions.
+
+ghost use Rattle.std.specs.Prelude.{◌≡◌, ◌≤◌, ◌++◌, length, map, IfOk, OnOk, MatchResult};
+ghost use Rattle.vital_library.specs.Limits.{IsLimited};
+ghost use Rattle.vital_library.specs.Positions.{numbered, numbered_from, seen, units_in};
+ghost use Rattle.vital_library.specs.Units.{place_of, units_of};
+ghost use Rattle.vital_library.specs.declared.error.LibraryError.TheVariants.{NoMemory};
+
+use crate::error::{LibraryError, MOST_UNITS};
+use crate::position::Position;
+use std::alloc::Global;
+use vital_base::Place;
+use vital_vhdl::{Unit, Units};
+
+/// A unit and where it stands.
+#[derive(Clone, Copy)]
+pub struct UnitAt<'a> {
+    pub position: Position,
+    pub unit: &'a Unit,
+}
+
+/// Where a unit begins.
+pub fn place_of(unit: &Unit) -> Place
+    ensures { result ≡ place_of unit.now }
+{
+    match unit {
+        Unit::Entity(entity) => entity.place,
+        Unit::Arch(arch) => arch.place,
+        Unit::Pack(pack) => pack.place,
+        Unit::Config(config) => config.place,
+    }
+}
+
+/// The units of files, unless there are too many.
+pub fn units_at<'a>(alloc: Global, files: &'a [Units]) -> Result<Vec<UnitAt<'a>>, LibraryError>
+    ensures units { IfOk result (λ units. map seen units.items ≡ numbered files.now) }
+    ensures limit { IsLimited result (units_of files.now) }
+{
+    let mut units = Vec::new(alloc);
+    for (number, file) in files.iter().enumerate() {
+        put_units(&mut units, file_number(number)?, file.units.as_slice())?;
+    }
+    Ok(units)
+}
+
+/// The number of a file, of which there are fewer than 2^32.
+fn file_number(number: usize) -> Result<u32, LibraryError>
+    ensures { MatchResult result (λ file. file ≡ number) (λ error. error ≡ NoMemory) }
+{
+    u32::try_from(number).map_err(|_| LibraryError::NoMemory)
+}
+
+/// Puts the units of one file at the end.
+fn put_units<'a>(
+    all: &mut Vec<UnitAt<'a>>,
+    file: u32,
+    units: &'a [Unit],
+) -> Result<(), LibraryError>
+    requires { length all.old.items ≤ MOST_UNITS }
+    ensures units { OnOk result (map seen all.new.items ≡ map seen all.old.items ++ numbered_from file 0 units.now) }
+    ensures limit { IsLimited result (units_in all.old.items ++ units.now) }
+{
+    for (number, unit) in units.iter().enumerate() {
+        if all.len() == MOST_UNITS as usize {
+            return Err(LibraryError::TooManyUnits {
+                place: place_of(unit),
+            });
+        }
+        let position = Position {
+            file,
+            unit: number as u32,
+        };
+        all.push(UnitAt { position, unit })?;
+    }
+    Ok(())
+}
