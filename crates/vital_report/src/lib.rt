@@ -2,10 +2,12 @@
 #![tactic(auto)]
 
 mod field;
+mod fields;
 mod line;
+mod parts;
 mod reporter;
 #[cfg(test)]
 mod tests;
 
-pub use line::{Line, StimulusWhy, UsageWhy};
+pub use line::{LexicalWhy, LibraryWhy, Limit, Line, Position, StimulusWhy, UsageWhy};
 pub use reporter::{NoMemory, Reporter};
