@@ -1,4 +1,4 @@
--- The lines of a run and of a refusal, as they are printed.
+-- The lines of a run, of a check and of a refusal, as they are printed.
 use Rattle.std.specs.Prelude.{ℕ, List, [], ◌∷◌, ◌++◌, codes, decimal, Option, Some, None, option_map}
 use Rattle.std.specs.List.{flat_map}
 use Rattle.vital_logic.specs.declared.level.Level.{Level}

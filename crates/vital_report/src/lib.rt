@@ -1,4 +1,4 @@
-//! The lines that a run prints, and the reporter that writes them to a sink.
+//! The lines that are printed, and the reporter that writes them to a sink.
 #![tactic(auto)]
 
 mod field;
