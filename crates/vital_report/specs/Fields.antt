@@ -3,9 +3,18 @@ use Rattle.std.specs.Prelude.{ℕ, List, [], ◌∷◌, decimal}
 use Rattle.vital_logic.specs.Levels.{byte_of}
 use Rattle.vital_report.specs.declared.field.Field.{Field}
 use Rattle.vital_report.specs.declared.field.Field.TheVariants.{Text, Number, Level as Value}
+use Rattle.vital_report.specs.declared.fields.Fields.{Fields}
+use Rattle.vital_report.specs.declared.fields.Fields.TheVariants.{One, Two, Three, Four}
 
 -- The bytes of a field: a text as it stands, a number in decimal, a level by its letter.
 abbrev pub field_bytes : Field → List ℕ
 field_bytes (Text text) = text.now
 field_bytes (Number number) = decimal number
 field_bytes (Value level) = byte_of level ∷ []
+
+-- The fields in order.
+abbrev pub listed : Fields → List Field
+listed (One only) = only ∷ []
+listed (Two first second) = first ∷ second ∷ []
+listed (Three first second third) = first ∷ second ∷ third ∷ []
+listed (Four first second third fourth) = first ∷ second ∷ third ∷ fourth ∷ []

@@ -1,11 +1,13 @@
-//! The lines that a run prints, and the reporter that writes them to a sink.
+//! The lines that are printed, and the reporter that writes them to a sink.
 #![tactic(auto)]
 
 mod field;
+mod fields;
 mod line;
+mod parts;
 mod reporter;
 #[cfg(test)]
 mod tests;
 
-pub use line::{Line, StimulusWhy, UsageWhy};
+pub use line::{LexicalWhy, LibraryWhy, Limit, Line, Position, StimulusWhy, UsageWhy};
 pub use reporter::{NoMemory, Reporter};

@@ -1,5 +1,5 @@
 ghost use Rattle.std.specs.Prelude.{◌≡◌};
-ghost use Rattle.vital_report.specs.Lines.{usage_word, stimulus_word};
+ghost use Rattle.vital_report.specs.Lines.{usage_word, stimulus_word, lexical_word, limit_word, library_word};
 
 use vital_base::{Name, Time};
 use vital_logic::Level;
@@ -25,14 +25,35 @@ pub enum Line<'a> {
     End {
         time: Time,
     },
+    /// `cell ENTITY ARCH read`: an entity was read, with this architecture; ARCH is `-` where it has none.
+    CellRead {
+        entity: &'a Name,
+        arch: Option<&'a Name>,
+    },
     /// `refused usage N WHY`: the word with number N, counted from 1, is at fault.
     RefusedUsage {
         word: u64,
         why: UsageWhy,
     },
-    /// `refused limit file FILE 0 0`: the file is too long.
+    /// `refused lexical FILE LINE COLUMN WHY`: at this place of a VHDL file no lexeme fits.
+    RefusedLexical {
+        at: Position<'a>,
+        why: LexicalWhy,
+    },
+    /// `refused syntax FILE LINE COLUMN`: at this place of a VHDL file the grammar cannot go on.
+    RefusedSyntax {
+        at: Position<'a>,
+    },
+    /// `refused limit WHICH FILE LINE COLUMN`: at this place a file passes a limit. The place in a file that is too long is
+    /// 0 and 0.
     RefusedLimit {
-        file: &'a Name,
+        limit: Limit,
+        at: Position<'a>,
+    },
+    /// `refused library WHY FILE LINE COLUMN`: the unit at this place does not go with the other units of the library.
+    RefusedLibrary {
+        why: LibraryWhy,
+        at: Position<'a>,
     },
     /// `refused stimulus WHY FILE LINE`: a line of a stimulus file, counted from 1, is at fault.
     RefusedStimulus {
@@ -40,6 +61,14 @@ pub enum Line<'a> {
         file: &'a Name,
         line: u32,
     },
+}
+
+/// A place as it is printed: the name of its file, and the line and the column in it, both from 1; or 0 and 0 for a whole file.
+#[derive(Clone, Copy, Debug)]
+pub struct Position<'a> {
+    pub file: &'a Name,
+    pub line: u32,
+    pub column: u32,
 }
 
 /// Why the words of the command line are refused.
@@ -98,6 +127,76 @@ impl StimulusWhy {
             StimulusWhy::TooLarge => b"large",
             StimulusWhy::BadValue => b"value",
             StimulusWhy::Falls => b"falls",
+        }
+    }
+}
+
+/// Why a VHDL text is no row of lexemes.
+#[derive(Clone, Copy, Debug, PartialEq, Eq)]
+pub enum LexicalWhy {
+    /// No lexeme begins with the byte.
+    Character,
+    /// A quotation mark or a backslash begins a string or an extended identifier that has no end.
+    Unclosed,
+}
+
+impl LexicalWhy {
+    /// The word that is printed for it.
+    pub fn word(self) -> &'static [u8]
+        ensures { result.now ≡ lexical_word self }
+    {
+        match self {
+            LexicalWhy::Character => b"character",
+            LexicalWhy::Unclosed => b"unclosed",
+        }
+    }
+}
+
+/// Which limit a file passes.
+#[derive(Clone, Copy, Debug, PartialEq, Eq)]
+pub enum Limit {
+    /// The length of a file.
+    File,
+    /// The count of the tokens of all files of a run.
+    Tokens,
+    /// The depth to which constructs nest.
+    Nesting,
+    /// The count of the units of a library.
+    Units,
+}
+
+impl Limit {
+    /// The word that is printed for it.
+    pub fn word(self) -> &'static [u8]
+        ensures { result.now ≡ limit_word self }
+    {
+        match self {
+            Limit::File => b"file",
+            Limit::Tokens => b"tokens",
+            Limit::Nesting => b"nesting",
+            Limit::Units => b"units",
+        }
+    }
+}
+
+/// Why the units of a library do not go together.
+#[derive(Clone, Copy, Debug, PartialEq, Eq)]
+pub enum LibraryWhy {
+    /// An entity, a package or a configuration has the name of an earlier one, or an entity has a second architecture of
+    /// one name.
+    Duplicate,
+    /// No file has the entity that an architecture names.
+    Entity,
+}
+
+impl LibraryWhy {
+    /// The word that is printed for it.
+    pub fn word(self) -> &'static [u8]
+        ensures { result.now ≡ library_word self }
+    {
+        match self {
+            LibraryWhy::Duplicate => b"duplicate",
+            LibraryWhy::Entity => b"entity",
         }
     }
 }

@@ -6,7 +6,9 @@ ghost use Rattle.vital_report.specs.Lines.{said, bytes_of, line_of};
 ghost use Rattle.vital_report.specs.Reporters.{PassesOn};
 
 use crate::field::Field;
+use crate::fields::Fields;
 use crate::line::Line;
+use crate::parts::Parts;
 use itoa::Buffer;
 use std::alloc::{AllocError, Global};
 use std::marker::Model;
@@ -44,24 +46,6 @@ impl Model for Reporter {
     ghost invariant = { λ r. (vec_len r.held ≤ ROOM) × (ROOM ≤ vec_capacity r.held) };
 }
 
-/// The fields of a file that is too long: its name, and no place in it.
-fn limit_fields<'a>(file: &'a [u8]) -> [Field<'a>; 3]
-    ensures { map field_bytes result ≡ file.now ∷ decimal 0 ∷ decimal 0 ∷ [] }
-{
-    [Field::Text(file), Field::Number(0), Field::Number(0)]
-}
-
-/// The fields of a refused stimulus.
-fn stimulus_fields<'a>(why: &'a [u8], file: &'a [u8], line: u32) -> [Field<'a>; 3]
-    ensures { map field_bytes result ≡ why.now ∷ file.now ∷ decimal line ∷ [] }
-{
-    [
-        Field::Text(why),
-        Field::Text(file),
-        Field::Number(u64::from(line)),
-    ]
-}
-
 impl Reporter {
     /// A reporter that holds nothing and has not stopped. It takes all the memory that it will need.
     pub fn new(alloc: Global) -> Result<Reporter, NoMemory>
@@ -96,38 +80,15 @@ impl Reporter {
         if self.stopped {
             return Err(WriteFault);
         }
-        match *line {
-            Line::Version => self.put_fields(sink, b"vital", &[Field::Number(1)]),
-            Line::Init { name, value } => {
-                let fields = [Field::Text(name.as_slice()), Field::Level(value)];
-                self.put_fields(sink, b"init", &fields)
+        let Parts { start, fields } = Parts::of(line);
+        match fields {
+            Fields::One(only) => self.put_fields(sink, start, &[only]),
+            Fields::Two(first, second) => self.put_fields(sink, start, &[first, second]),
+            Fields::Three(first, second, third) => {
+                self.put_fields(sink, start, &[first, second, third])
             }
-            Line::Event {
-                time,
-                delta,
-                name,
-                value,
-            } => {
-                let fields = [
-                    Field::Number(time),
-                    Field::Number(delta),
-                    Field::Text(name.as_slice()),
-                    Field::Level(value),
-                ];
-                self.put_fields(sink, b"event", &fields)
-            }
-            Line::End { time } => self.put_fields(sink, b"end", &[Field::Number(time)]),
-            Line::RefusedUsage { word, why } => {
-                let fields = [Field::Number(word), Field::Text(why.word())];
-                self.put_fields(sink, b"refused usage", &fields)
-            }
-            Line::RefusedLimit { file } => {
-                let fields = limit_fields(file.as_slice());
-                self.put_fields(sink, b"refused limit file", &fields)
-            }
-            Line::RefusedStimulus { why, file, line } => {
-                let fields = stimulus_fields(why.word(), file.as_slice(), line);
-                self.put_fields(sink, b"refused stimulus", &fields)
+            Fields::Four(first, second, third, fourth) => {
+                self.put_fields(sink, start, &[first, second, third, fourth])
             }
         }
     }

@@ -1,4 +1,4 @@
-use crate::{Line, Reporter, StimulusWhy, UsageWhy};
+use crate::{LexicalWhy, LibraryWhy, Limit, Line, Position, Reporter, StimulusWhy, UsageWhy};
 use std::alloc::{AllocError, Global};
 use std::test::Fail;
 use vital_base::{List, MemSink, Name, WriteFault};
@@ -74,10 +74,6 @@ fn lines_are_printed(rt: HostRuntime) -> Result<(), Fail> {
             "refused usage 4 missing\n",
         ),
         (
-            Line::RefusedLimit { file: &name },
-            "refused limit file s.vcd 0 0\n",
-        ),
-        (
             Line::RefusedStimulus {
                 why: StimulusWhy::BadLine,
                 file: &name,
@@ -116,6 +112,105 @@ fn lines_are_printed(rt: HostRuntime) -> Result<(), Fail> {
                 line: 5,
             },
             "refused stimulus falls s.vcd 5\n",
+        ),
+    ] {
+        let mut got = sink(alloc, 1_000, 0)?;
+        let mut reporter = Reporter::new(alloc)?;
+        assert_eq!(rt; reporter.put(&mut got, &line), Ok(()));
+        assert!(rt; got.bytes() == text.as_bytes());
+        assert_eq!(rt; reporter.flush(&mut got), Ok(()));
+        assert!(rt; got.bytes() == text.as_bytes());
+    }
+    Ok(())
+}
+
+fn cell_read<'a>(entity: &'a Name, arch: Option<&'a Name>) -> Line<'a> {
+    Line::CellRead { entity, arch }
+}
+
+#[test]
+fn lines_of_cells_and_places_are_printed(rt: HostRuntime) -> Result<(), Fail> {
+    let alloc = rt.alloc();
+    let name = Name::new(b"cells.vhd".to_vec(alloc)?);
+    let entity = Name::new(b"nand2".to_vec(alloc)?);
+    let arch = Name::new(b"vital".to_vec(alloc)?);
+    let at = Position {
+        file: &name,
+        line: 12,
+        column: 3,
+    };
+    let whole = Position {
+        line: 0,
+        column: 0,
+        ..at
+    };
+    for (line, text) in [
+        (cell_read(&entity, Some(&arch)), "cell nand2 vital read\n"),
+        (cell_read(&entity, None), "cell nand2 - read\n"),
+        (
+            Line::RefusedLexical {
+                at,
+                why: LexicalWhy::Character,
+            },
+            "refused lexical cells.vhd 12 3 character\n",
+        ),
+        (
+            Line::RefusedLexical {
+                at,
+                why: LexicalWhy::Unclosed,
+            },
+            "refused lexical cells.vhd 12 3 unclosed\n",
+        ),
+        (
+            Line::RefusedSyntax {
+                at: Position {
+                    line: 4_294_967_295,
+                    ..at
+                },
+            },
+            "refused syntax cells.vhd 4294967295 3\n",
+        ),
+        (
+            Line::RefusedLimit {
+                limit: Limit::File,
+                at: whole,
+            },
+            "refused limit file cells.vhd 0 0\n",
+        ),
+        (
+            Line::RefusedLimit {
+                limit: Limit::Tokens,
+                at,
+            },
+            "refused limit tokens cells.vhd 12 3\n",
+        ),
+        (
+            Line::RefusedLimit {
+                limit: Limit::Nesting,
+                at,
+            },
+            "refused limit nesting cells.vhd 12 3\n",
+        ),
+        (
+            Line::RefusedLimit {
+                limit: Limit::Units,
+                at,
+            },
+            "refused limit units cells.vhd 12 3\n",
+        ),
+        (
+            Line::RefusedLibrary {
+                why: LibraryWhy::Duplicate,
+                at,
+            },
+            "refused library duplicate cells.vhd 12 3\n",
+        ),
+        (
+            Line::RefusedLibrary {
+                why: LibraryWhy::Entity,
+                at,
+            },
+            "refused library entity cells.vhd 12 3\n",
         ),
     ] {
         let mut got = sink(alloc, 1_000, 0)?;
