@@ -58,8 +58,7 @@ impl IdentifierName {
 
     /// Its bytes, borrowed.
     pub fn as_slice(&self) -> &[u8]
-        ensures bytes { result.now ≡ self.now }
-        ensures form { IsIdentifierName self.now }
+        ensures { result.now ≡ self.now }
     {
         self.name.as_slice()
     }
