@@ -19,7 +19,7 @@ pub enum LibraryError {
     Duplicate { place: Place },
     /// The identifier at the place, after `of`, names an entity of which no file has a declaration (IEEE 1076-1993, 1.2).
     NoEntity { place: Place },
-    /// There was no memory for it, or there are 2^32 files or more.
+    /// There was no memory for it.
     NoMemory,
 }
 

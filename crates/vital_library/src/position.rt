@@ -9,7 +9,7 @@ use vital_vhdl::{Arch, Entity, Unit, Units};
 /// Where a unit stands: the number of its file, and its own in that file, each from 0.
 #[derive(Clone, Copy, Debug, PartialEq, Eq)]
 pub struct Position {
-    pub file: u32,
+    pub file: usize,
     pub unit: u32,
 }
 
@@ -19,7 +19,7 @@ impl Position {
         ensures { option_copied result ≡ unit_at files.now self }
     {
         files
-            .get(self.file as usize)?
+            .get(self.file)?
             .units
             .as_slice()
             .get(self.unit as usize)

@@ -1,10 +1,9 @@
 //! The units of files with their positions.
 
-ghost use Rattle.std.specs.Prelude.{◌≡◌, ◌≤◌, ◌++◌, length, map, IfOk, OnOk, MatchResult};
+ghost use Rattle.std.specs.Prelude.{◌≡◌, ◌≤◌, ◌++◌, length, map, IfOk, OnOk};
 ghost use Rattle.vital_library.specs.Limits.{IsLimited};
 ghost use Rattle.vital_library.specs.Positions.{numbered, numbered_from, seen, units_in};
 ghost use Rattle.vital_library.specs.Units.{place_of, units_of};
-ghost use Rattle.vital_library.specs.declared.error.LibraryError.TheVariants.{NoMemory};
 
 use crate::error::{LibraryError, MOST_UNITS};
 use crate::position::Position;
@@ -38,22 +37,15 @@ pub fn units_at<'a>(alloc: Global, files: &'a [Units]) -> Result<Vec<UnitAt<'a>>
 {
     let mut units = Vec::new(alloc);
     for (number, file) in files.iter().enumerate() {
-        put_units(&mut units, file_number(number)?, file.units.as_slice())?;
+        put_units(&mut units, number, file.units.as_slice())?;
     }
     Ok(units)
-}
-
-/// The number of a file, of which there are fewer than 2^32.
-fn file_number(number: usize) -> Result<u32, LibraryError>
-    ensures { MatchResult result (λ file. file ≡ number) (λ error. error ≡ NoMemory) }
-{
-    u32::try_from(number).map_err(|_| LibraryError::NoMemory)
 }
 
 /// Puts the units of one file at the end.
 fn put_units<'a>(
     all: &mut Vec<UnitAt<'a>>,
-    file: u32,
+    file: usize,
     units: &'a [Unit],
 ) -> Result<(), LibraryError>
     requires { length all.old.items ≤ MOST_UNITS }
