@@ -1,10 +1,14 @@
 pub mod Rising
-pub mod Scanning
+pub mod Refusals
 pub mod Least
 pub mod Cycles
 pub mod Written
 pub mod Sending
 pub mod OneCycle
 pub mod Printing
+pub mod Loaded
+pub mod OneAnswer
+pub mod Cells
+pub mod FilesRead
 pub mod Parts
 pub mod CyclesLeft

@@ -8,16 +8,18 @@ use Rattle.vital_base.specs.Shelves.{Files}
 use Rattle.vital_base.specs.Faults.{Rose}
 use Rattle.vital_base.specs.Sinks.{appended, AppendsPrefix}
 use Rattle.vital_base.specs.declared.load.TheConstants.{LONGEST_FILE}
-use Rattle.vital_report.specs.Lines.{refused_limit, refused_stimulus}
+use Rattle.vital_report.specs.Lines.{refused_stimulus}
 use Rattle.vital_report.specs.Reporters.{ReporterState}
 use Rattle.vital_stim.specs.Stimuli.{stim}
 use Rattle.vital_stim.specs.declared.fault.StimFault.{StimFault}
 use Rattle.vital_stim.specs.declared.stimuli.Stimuli.{Stimuli}
-use Rattle.vital_tool.specs.declared.status.Status.TheVariants.{Limit, Stimulus, ReadFault, WriteFault, NoMemory}
+use Rattle.vital_tool.specs.declared.status.Status.TheVariants.{Stimulus, ReadFault, WriteFault, NoMemory}
+use Rattle.vital_tool.specs.declared.status.Status.{Status}
 use Rattle.vital_tool.specs.declared.words.Play.{Play as PlayWords}
 use Rattle.vital_tool.specs.Run.{Event}
-use Rattle.vital_tool.specs.Answer.{Answer, ◌>>=◌, text_of, event_line, text_of_event, refused, loaded, accepted, printed_why, ended, stimuli_answer, text_answer, play_answer}
-use Rattle.vital_tool.specs.Outcome.{Prints, complete, output_failed, memory_failed}
+use Rattle.vital_tool.specs.Answers.{Answer, ◌>>=◌, ended, text_of, refused, too_long, not_there, loaded}
+use Rattle.vital_tool.specs.PlayAnswer.{event_line, text_of_event, accepted, printed_why, stimuli_answer, text_answer, play_answer}
+use Rattle.vital_tool.specs.Outcome.{Gives, Prints, Runs, complete, input_failed, output_failed, memory_failed}
 use Rattle.vital_tool.specs.Writes.{SinkState, ready, Writes, WritesAll, WritesPrefix}
 
 -- the text of the lines of events
@@ -26,20 +28,21 @@ text_of_events [] = refl
 text_of_events (e ∷ es) = ap (λ (rest : List ℕ). text_of_event e ++ rest) (text_of_events es)
 
 -- all was written
-pub prints_all : (answer : Answer) (old new : SinkState) (reporter : ReporterState) → answer.status ≢ ReadFault → answer.status ≢ WriteFault → WritesAll answer.bytes old new reporter → Prints answer answer.status old new
+pub prints_all : (answer : Answer) (old new : SinkState) (reporter : ReporterState) → answer.status ≢ ReadFault → answer.status ≢ WriteFault → WritesAll answer.bytes old new reporter
+    → Prints (λ other. other ≡ answer) answer.status old new
 prints_all answer old new reporter no_read no_write w =
     record {
-      gives = complete refl w.told;
+      gives = λ other e. subst (λ (x : Answer). Gives x answer.status old.told new.told) (sym e) (complete refl w.told);
       no_read_fault = no_read;
       rose = λ e. absurd (no_write e);
       never_falls = omega (arith, w.faults);
     }
 
 -- a prefix was written
-pub prints_prefix : (answer : Answer) (old new : SinkState) → WritesPrefix answer.bytes old new → Prints answer WriteFault old new
+pub prints_prefix : (answer : Answer) (old new : SinkState) → WritesPrefix answer.bytes old new → Prints (λ other. other ≡ answer) WriteFault old new
 prints_prefix answer old new w =
     record {
-      gives = output_failed refl w.told;
+      gives = λ other e. subst (λ (x : Answer). Gives x WriteFault old.told new.told) (sym e) (output_failed refl w.told);
       no_read_fault = λ e. absurd cc;
       rose = λ e. w.rose;
       never_falls = w.never_falls;
@@ -50,19 +53,61 @@ appended_none None = refl
 appended_none (Some bytes) = ap (λ (b : List ℕ). Some b) (sym (append-nil bytes))
 
 -- nothing was written
-pub prints_nothing : (answer : Answer) (old : SinkState) → Prints answer NoMemory old old
-prints_nothing answer old =
+pub prints_nothing : (IsAnswer : Answer → Type 0) (old : SinkState) → Prints IsAnswer NoMemory old old
+prints_nothing IsAnswer old =
     record {
-      gives = memory_failed refl (0, appended_none old.told);
+      gives = λ answer h. memory_failed refl (0, appended_none old.told);
       no_read_fault = λ e. absurd cc;
       rose = λ e. absurd cc;
       never_falls = omega arith;
     }
 
+-- what is printed for each answer of one kind is printed for those of another that are of the first
+pub prints_for : (P Q : Answer → Type 0) (status : Status) (old new : SinkState) → Prints P status old new → ((answer : Answer) → Q answer → P answer) → Prints Q status old new
+prints_for P Q status old new p within =
+    record { gives = λ answer h. p.gives answer (within answer h); no_read_fault = p.no_read_fault; rose = p.rose; never_falls = p.never_falls }
+
 -- what holds of all files holds of those that are told
 pub if_told : {F : Type 0} (o : Option F) (P : F → Type 0) → ((x : F) → P x) → IfSome o P
 if_told None P h = tt
 if_told (Some x) P h = h x
+
+pub if_also : {F : Type 0} (o : Option F) (P Q : F → Type 0) → IfSome o P → ((x : F) → P x → Q x) → IfSome o Q
+if_also None P Q p h = tt
+if_also (Some x) P Q p h = h x p
+
+-- a run that printed
+pub runs_printed : (IsAnswer : Files → Answer → Type 0) (P : Answer → Type 0) (status : Status) (told : Option Files) (is_steady : Type 0) (before after : ℕ) (old new : SinkState)
+    → Prints P status old new → before ≤ after → IfSome told (λ files. (answer : Answer) → IsAnswer files answer → P answer) → Runs IsAnswer status told is_steady before after old new
+runs_printed IsAnswer P status told is_steady before after old new p falls within =
+    record {
+      answered = if_also told _ _ within (λ files h answer is. p.gives answer (h answer is));
+      read_fault_rose = λ e. absurd (p.no_read_fault e);
+      read_fault_is_the_answer = λ e. absurd (p.no_read_fault e);
+      read_fault_writes_nothing = λ e. absurd (p.no_read_fault e);
+      write_fault_rose = p.rose;
+      shelf_never_falls = falls;
+      sink_never_falls = p.never_falls;
+    }
+
+-- a run whose input failed
+pub runs_unread : (IsAnswer : Files → Answer → Type 0) (told : Option Files) (is_steady : Type 0) (before after : ℕ) (old : SinkState) → Rose before after → before ≤ after
+    → (is_steady → IfSome told (λ files. (answer : Answer) → IsAnswer files answer → answer.status ≡ ReadFault)) → Runs IsAnswer ReadFault told is_steady before after old old
+runs_unread IsAnswer told is_steady before after old rose falls missing =
+    record {
+      answered = if_told told _ (λ files answer is. input_failed refl refl);
+      read_fault_rose = λ e. rose;
+      read_fault_is_the_answer = λ e steady. missing steady;
+      read_fault_writes_nothing = λ e. refl;
+      write_fault_rose = λ e. absurd cc;
+      shelf_never_falls = falls;
+      sink_never_falls = omega arith;
+    }
+
+-- a run whose memory failed
+pub runs_nothing : (IsAnswer : Files → Answer → Type 0) (told : Option Files) (is_steady : Type 0) (before after : ℕ) (old : SinkState) → before ≤ after → Runs IsAnswer NoMemory told is_steady before after old old
+runs_nothing IsAnswer told is_steady before after old falls =
+    runs_printed IsAnswer (λ answer. Unit {0}) NoMemory told is_steady before after old old (prints_nothing (λ answer. Unit {0}) old) falls (if_told told _ (λ files answer is. tt))
 
 -- the answer to a text with stimuli, and to one with a fault
 pub text_of_stimuli : (words : PlayWords) (text : List ℕ) (stimuli : Stimuli) → stim text ≡ Ok stimuli → text_answer words text ≡ stimuli_answer words stimuli
@@ -75,14 +120,14 @@ text_of_fault words text fault e = ap (λ (r : Result Stimuli StimFault). ended 
 pub play_of_text : (files : Files) (words : PlayWords) (text : List ℕ) → files words.stim ≡ Some text → length text ≤ LONGEST_FILE → play_answer files words ≡ text_answer words text
 play_of_text files words text e le =
     ap (λ (o : Option (List ℕ)). ended (loaded words.stim o >>= λ t. Ok (text_answer words t))) e
-    ∙ ap (λ (b : Bool). ended (cond b (Ok text) (Err (refused (refused_limit words.stim) Limit)) >>= λ t. Ok (text_answer words t))) (le-leb (length text) LONGEST_FILE le)
+    ∙ ap (λ (b : Bool). ended (cond b (Ok text) (Err (too_long words.stim)) >>= λ t. Ok (text_answer words t))) (le-leb (length text) LONGEST_FILE le)
 
-pub play_of_long : (files : Files) (words : PlayWords) (text : List ℕ) → files words.stim ≡ Some text → LONGEST_FILE < length text → play_answer files words ≡ refused (refused_limit words.stim) Limit
+pub play_of_long : (files : Files) (words : PlayWords) (text : List ℕ) → files words.stim ≡ Some text → LONGEST_FILE < length text → play_answer files words ≡ too_long words.stim
 play_of_long files words text e lt =
     ap (λ (o : Option (List ℕ)). ended (loaded words.stim o >>= λ t. Ok (text_answer words t))) e
-    ∙ ap (λ (b : Bool). ended (cond b (Ok text) (Err (refused (refused_limit words.stim) Limit)) >>= λ t. Ok (text_answer words t))) (lt-leb (length text) LONGEST_FILE lt)
+    ∙ ap (λ (b : Bool). ended (cond b (Ok text) (Err (too_long words.stim)) >>= λ t. Ok (text_answer words t))) (lt-leb (length text) LONGEST_FILE lt)
 
-pub play_of_none : (files : Files) (words : PlayWords) → files words.stim ≡ None → play_answer files words ≡ record { bytes = []; status = ReadFault }
+pub play_of_none : (files : Files) (words : PlayWords) → files words.stim ≡ None → play_answer files words ≡ not_there
 play_of_none files words e = ap (λ (o : Option (List ℕ)). ended (loaded words.stim o >>= λ t. Ok (text_answer words t))) e
 
 not_stopped : (reporter : ReporterState) (old new : ℕ) → reporter ≡ ready → ((reporter.stopped ≡ true) ⊎ Rose old new) → Rose old new

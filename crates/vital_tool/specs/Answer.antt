@@ -1,116 +1,27 @@
 -- What the program answers to words and files: the bytes that it writes, and its status.
-use Rattle.std.specs.Prelude.{ℕ, List, [], ◌∷◌, ◌++◌, length, map, nat_le, Option, Some, None, Result, Ok, Err, if◌then◌else◌}
-use Rattle.std.specs.List.{flat_map}
+use Rattle.std.specs.Prelude.{ℕ, ◌≡◌, List, Result, Ok, Err}
 use Rattle.vital_base.specs.Shelves.{Files}
-use Rattle.vital_base.specs.declared.load.TheConstants.{LONGEST_FILE}
-use Rattle.vital_logic.specs.declared.level.Level.{Level}
-use Rattle.vital_logic.specs.declared.level.Level.TheVariants.{X}
-use Rattle.vital_report.specs.Lines.{Said, version, init, event, end, refused_usage, refused_limit, refused_stimulus, bytes_of}
-use Rattle.vital_report.specs.declared.line.StimulusWhy.{StimulusWhy}
-use Rattle.vital_report.specs.declared.line.StimulusWhy.TheVariants.{BadLine, BadUnit, TooLarge, BadValue, Falls}
-use Rattle.vital_stim.specs.Stimuli.{stim}
-use Rattle.vital_stim.specs.declared.fault.StimFault.{StimFault}
-use Rattle.vital_stim.specs.declared.fault.StimWhy.{StimWhy}
-use Rattle.vital_stim.specs.declared.fault.StimWhy.TheVariants.{Line, Unit as UnknownUnit, TimeLarge, Value, TimeFalls}
-use Rattle.vital_stim.specs.declared.stimuli.Stimuli.{Stimuli}
-use Rattle.vital_tool.specs.declared.status.Status.{Status}
-use Rattle.vital_tool.specs.declared.status.Status.TheVariants.{Done, Usage, Limit, Stimulus, ReadFault}
+use Rattle.vital_report.specs.Lines.{refused_usage}
+use Rattle.vital_tool.specs.declared.status.Status.TheVariants.{Usage}
 use Rattle.vital_tool.specs.declared.words.Job.{Job}
-use Rattle.vital_tool.specs.declared.words.Job.TheVariants.{Play}
-use Rattle.vital_tool.specs.declared.words.Play.{Play as PlayWords}
+use Rattle.vital_tool.specs.declared.words.Job.TheVariants.{Play, Check}
 use Rattle.vital_tool.specs.declared.words.UsageFault.{UsageFault}
+use Rattle.vital_tool.specs.Answers.{Answer, refused}
+use Rattle.vital_tool.specs.CheckAnswer.{IsCheckAnswer}
+use Rattle.vital_tool.specs.PlayAnswer.{play_answer}
 use Rattle.vital_tool.specs.Words.{job}
-use Rattle.vital_tool.specs.Run.{Signal, Event, State, run_events}
-use Rattle.vital_tool.specs.Play.{port_signals, after_initial_run}
 
-pub record Answer : Type 0 where
-  pub bytes : List ℕ
-  pub status : Status
+-- What a job is answered where these are the files, or what the words are answered that ask for none.
+abbrev pub IsJobAnswer : Files → Result Job UsageFault → Answer → Type 0
+IsJobAnswer files (Ok (Play words)) answer = answer ≡ play_answer files words
+IsJobAnswer files (Ok (Check words)) answer = IsCheckAnswer files words answer
+IsJobAnswer files (Err fault) answer = answer ≡ refused (refused_usage fault.word fault.why) Usage
 
-infixl 10 ◌>>=◌
-abbrev pub ◌>>=◌ : {A B : Type 0} → Result A Answer → (A → Result B Answer) → Result B Answer
-(Ok x) >>= f = f x
-(Err refusal) >>= f = Err refusal
+-- What a list of words is answered, where these are the files.
+abbrev pub IsAnswer : List (List ℕ) → Files → Answer → Type 0
+IsAnswer words files answer = IsJobAnswer files (job words) answer
 
--- The text of lines, one after the other.
-abbrev pub text_of : List Said → List ℕ
-text_of lines = flat_map bytes_of lines
-
--- A refusal is one line, and ends the answer.
-abbrev pub refused : Said → Status → Answer
-refused line status = record { bytes = bytes_of line; status = status }
-
--- The bytes of a file of this name, where it is there and not too long.
-abbrev pub loaded : List ℕ → Option (List ℕ) → Result (List ℕ) Answer
-loaded name None = Err (record { bytes = []; status = ReadFault })
-loaded name (Some text) =
-    if nat_le (length text) LONGEST_FILE then Ok text else Err (refused (refused_limit name) Limit)
-
--- Why a stimulus file is refused, as it is printed.
-abbrev pub printed_why : StimWhy → StimulusWhy
-printed_why Line = BadLine
-printed_why UnknownUnit = BadUnit
-printed_why TimeLarge = TooLarge
-printed_why Value = BadValue
-printed_why TimeFalls = Falls
-
--- The stimuli of a file of this name, where it has no fault.
-abbrev pub accepted : List ℕ → Result Stimuli StimFault → Result Stimuli Answer
-accepted name (Ok stimuli) = Ok stimuli
-accepted name (Err fault) = Err (refused (refused_stimulus (printed_why fault.why) name fault.line) Stimulus)
-
--- Each signal with its value.
-abbrev pub init_lines : List Signal → List Level → List Said
-init_lines [] values = []
-init_lines (signal ∷ signals) [] = []
-init_lines (signal ∷ signals) (value ∷ values) = init signal.name value ∷ init_lines signals values
-
-abbrev pub event_line : Event → Said
-event_line happened = event happened.time happened.delta happened.name happened.value
-
--- The bytes of the lines of events.
-abbrev pub text_of_event : Event → List ℕ
-text_of_event happened = bytes_of (event_line happened)
-
--- The resolution of a run in which every signal has one driver, so that it is never asked.
-abbrev pub unasked : List Level → Level
-unasked values = X
-
--- The lines of a run from a state on up to the end time: the values of the signals, the events, the end.
-abbrev pub run_lines : List Signal → State → ℕ → List Said
-run_lines signals state until =
-    version ∷ (init_lines signals state.values ++ map event_line (run_events unasked signals until state) ++ end until ∷ [])
-
--- The lines of a run of stimuli alone.
-abbrev pub play_lines : Stimuli → ℕ → List Said
-play_lines stimuli until = run_lines (port_signals 0 stimuli.ports) (after_initial_run unasked stimuli) until
-
--- The answer, whether or not a refusal ended it.
-abbrev pub ended : Result Answer Answer → Answer
-ended (Ok answer) = answer
-ended (Err refusal) = refusal
-
--- The answer of `play` to stimuli.
-abbrev pub stimuli_answer : PlayWords → Stimuli → Answer
-stimuli_answer words stimuli = record { bytes = text_of (play_lines stimuli words.until); status = Done }
-
--- The answer of `play` to the text of its file.
-abbrev pub text_answer : PlayWords → List ℕ → Answer
-text_answer words text = ended (do
-  stimuli ← accepted words.stim (stim text)
-  Ok (stimuli_answer words stimuli))
-
--- The answer of `play`: its file is loaded, then read, and then its stimuli run.
-abbrev pub play_answer : Files → PlayWords → Answer
-play_answer files words = ended (do
-  text ← loaded words.stim (files words.stim)
-  Ok (text_answer words text))
-
--- What a job, or the words that ask for none, are answered.
-abbrev pub job_answer : Files → Result Job UsageFault → Answer
-job_answer files (Ok (Play words)) = play_answer files words
-job_answer files (Err fault) = refused (refused_usage fault.word fault.why) Usage
-
--- The answer to a list of words, where these are the files.
-abbrev pub answer : List (List ℕ) → Files → Answer
-answer words files = job_answer files (job words)
+-- This is the answer, and there is no other.
+pub record IsOnlyAnswer (words : List (List ℕ)) (files : Files) (answer : Answer) : Type 0 where
+  pub is : IsAnswer words files answer
+  pub only : (other : Answer) → IsAnswer words files other → other ≡ answer

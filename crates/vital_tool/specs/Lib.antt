@@ -1,9 +1,14 @@
 pub mod Driver
+pub mod Keys
 pub mod Words
 pub mod Given
 pub mod Run
 pub mod Play
 pub mod Status
+pub mod Answers
+pub mod PlayAnswer
+pub mod CheckAnswer
+pub mod CheckText
 pub mod Answer
 pub mod Writes
 pub mod Outcome

@@ -1,9 +1,15 @@
 //! The program: its words, the run that they ask for, and the one call that does it all.
 #![tactic(auto)]
 
+mod checking;
 mod driver;
+mod keys;
 mod lines;
+mod loading;
 mod play;
+mod playing;
+mod reading;
+mod refusal;
 mod run;
 mod status;
 mod words;

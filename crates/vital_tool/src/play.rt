@@ -1,7 +1,8 @@
 //! A run of stimuli alone: each port is a signal with one driver.
 
 ghost use Rattle.std.specs.Prelude.{◌≡◌, ◌+◌, ◌-◌, ◌^◌, ◌<◌, ◌==◌, length, map, All, IfOk, OnOk, if◌then◌else◌};
-ghost use Rattle.vital_tool.specs.Answer.{init_lines, run_lines, text_of};
+ghost use Rattle.vital_tool.specs.Answers.{text_of};
+ghost use Rattle.vital_tool.specs.PlayAnswer.{init_lines, run_lines};
 ghost use Rattle.vital_tool.specs.Driver.{RisesFrom, AllRise, advance, currents, least, next_time, pending_times};
 ghost use Rattle.vital_tool.specs.Play.{first_state, idle_drivers, port_signals, sent};
 ghost use Rattle.vital_tool.specs.PlayText.{port_text, cycle_text, cycles_text};

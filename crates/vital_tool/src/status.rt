@@ -8,8 +8,12 @@ pub enum Status {
     Done,
     /// The words are wrong.
     Usage,
+    /// A text has a fault, or a token that no file goes on with.
+    Syntax,
     /// A counted quantity passes its limit.
     Limit,
+    /// The units of the files are no library.
+    Library,
     /// The stimuli are wrong.
     Stimulus,
     /// The shelf failed.
@@ -28,7 +32,9 @@ impl Status {
         match self {
             Status::Done => 0,
             Status::Usage => 2,
+            Status::Syntax => 3,
             Status::Limit => 4,
+            Status::Library => 5,
             Status::Stimulus => 8,
             Status::ReadFault => 10,
             Status::WriteFault => 11,

@@ -1,135 +1,22 @@
 //! Rows of words and files with what they are answered, over devices in memory.
 
+mod check_rows;
+mod play_rows;
+
+use crate::reading::MOST_TOKENS;
 use crate::run::run;
 use crate::status::Status;
 use std::alloc::{AllocError, Global};
 use std::test::Fail;
 use vital_base::{Bytes, List, MemFile, MemShelf, MemSink, Name, Word};
 
-/// Words, what the file `s` holds where it is there, what is written, and the status.
+/// Words, the files with their texts, what is written, and the status.
 type Row = (
     &'static [&'static str],
-    Option<&'static str>,
+    &'static [(&'static str, &'static str)],
     &'static str,
     u8,
 );
-
-const TWO_PORTS: &str = "0 ps a 0\n0 ps b 1\n10 ps a 1\n20 ps b 1\n30 ps a Z\n";
-
-const TWO_PORTS_LINES: &str =
-    "vital 1\ninit a U\ninit b U\nevent 0 1 a 0\nevent 0 1 b 1\nevent 10000 0 a 1\nend 25000\n";
-
-const ROWS: [Row; 24] = [
-    (
-        &["play", "stim=s", "until=25ps"],
-        Some(TWO_PORTS),
-        TWO_PORTS_LINES,
-        0,
-    ),
-    (
-        &["play", "until=25ps", "stim=s"],
-        Some(TWO_PORTS),
-        TWO_PORTS_LINES,
-        0,
-    ),
-    (
-        &["play", "stim=s", "until=0fs"],
-        Some(""),
-        "vital 1\nend 0\n",
-        0,
-    ),
-    (
-        &["play", "stim=s", "until=5ns"],
-        Some("0 ns a 1\n5 ns a 1\n5 ns a 0\n"),
-        "vital 1\ninit a U\nevent 0 1 a 1\nevent 5000000 0 a 0\nend 5000000\n",
-        0,
-    ),
-    (
-        &["play", "stim=s", "until=5ns"],
-        Some("5 ns a 1\n5000001 fs a 0\n"),
-        "vital 1\ninit a U\nevent 5000000 0 a 1\nend 5000000\n",
-        0,
-    ),
-    (
-        &["play", "stim=s", "until=1152921504606846976fs"],
-        Some("1152921504606846976 fs a h\r\n"),
-        "vital 1\ninit a U\nevent 1152921504606846976 0 a H\nend 1152921504606846976\n",
-        0,
-    ),
-    (&[], None, "refused usage 1 command\n", 2),
-    (&["--help"], None, "refused usage 1 command\n", 2),
-    (
-        &["Play", "stim=s", "until=1ns"],
-        None,
-        "refused usage 1 command\n",
-        2,
-    ),
-    (&["play", "stim"], None, "refused usage 2 key\n", 2),
-    (
-        &["play", "stim=s", "lib=a"],
-        None,
-        "refused usage 3 key\n",
-        2,
-    ),
-    (
-        &["play", "until=1ns", "stim=s", "until=2ns"],
-        None,
-        "refused usage 4 twice\n",
-        2,
-    ),
-    (
-        &["play", "stim=s", "until=1"],
-        None,
-        "refused usage 3 value\n",
-        2,
-    ),
-    (
-        &["play", "stim=s", "until=1152921504606846977fs"],
-        None,
-        "refused usage 3 value\n",
-        2,
-    ),
-    (&["play", "stim="], None, "refused usage 2 value\n", 2),
-    (&["play", "stim=s"], None, "refused usage 3 missing\n", 2),
-    (&["play", "until=1ns"], None, "refused usage 3 missing\n", 2),
-    (&["play", "stim=s", "until=5ns"], None, "", 10),
-    (
-        &["play", "stim=s", "until=5ns"],
-        Some("5 ns a\n"),
-        "refused stimulus line s 1\n",
-        8,
-    ),
-    (
-        &["play", "stim=s", "until=5ns"],
-        Some("5 min a 1\n"),
-        "refused stimulus unit s 1\n",
-        8,
-    ),
-    (
-        &["play", "stim=s", "until=5ns"],
-        Some("9999999999999999999 ms a 1"),
-        "refused stimulus large s 1\n",
-        8,
-    ),
-    (
-        &["play", "stim=s", "until=5ns"],
-        Some("5 ns a 2\n"),
-        "refused stimulus value s 1\n",
-        8,
-    ),
-    (
-        &["play", "stim=s", "until=5ns"],
-        Some("5 ns a 1\n4 ns a 0\n"),
-        "refused stimulus falls s 2\n",
-        8,
-    ),
-    (
-        &["play", "stim=s", "until=005ns"],
-        Some("# none\n\n \t\r\n0 ns IN(0) 1\n"),
-        "vital 1\ninit in(0) U\nevent 0 1 in(0) 1\nend 5000000\n",
-        0,
-    ),
-];
 
 fn words_of(alloc: Global, words: &[&str]) -> Result<Vec<Word>, AllocError> {
     let mut all = Vec::new(alloc);
@@ -139,10 +26,10 @@ fn words_of(alloc: Global, words: &[&str]) -> Result<Vec<Word>, AllocError> {
     Ok(all)
 }
 
-fn files_of(alloc: Global, text: Option<&str>) -> Result<List<MemFile>, AllocError> {
+fn files_of(alloc: Global, texts: &[(&str, &str)]) -> Result<List<MemFile>, AllocError> {
     let mut files = Vec::new(alloc);
-    if let Some(text) = text {
-        let name = Name::new(Vec::from_slice(alloc, b"s")?);
+    for (name, text) in texts {
+        let name = Name::new(Vec::from_slice(alloc, name.as_bytes())?);
         let bytes = Bytes::new(Vec::from_slice(alloc, text.as_bytes())?);
         files.push(MemFile { name, bytes })?;
     }
@@ -152,40 +39,124 @@ fn files_of(alloc: Global, text: Option<&str>) -> Result<List<MemFile>, AllocErr
 #[test]
 fn rows_are_answered(rt: HostRuntime) -> Result<(), Fail> {
     let alloc = rt.alloc();
-    for (words, text, written, status) in ROWS {
+    for (words, texts, written, status) in play_rows::ROWS.iter().chain(check_rows::ROWS.iter()) {
         let words = words_of(alloc, words)?;
-        let mut shelf = MemShelf::new(files_of(alloc, text)?, 7, List::new(Vec::new(alloc)));
+        let mut shelf = MemShelf::new(files_of(alloc, texts)?, 7, List::new(Vec::new(alloc)));
         let mut sink = MemSink::new(alloc, 1_000, List::new(Vec::new(alloc)));
         let ended = run(alloc, &words, &mut shelf, &mut sink);
-        assert_eq!(rt; ended.number(), status, "at {written:?}");
+        assert_eq!(rt; ended.number(), *status, "at {written:?}");
         assert_eq!(rt; sink.bytes(), written.as_bytes(), "at {written:?}");
     }
     Ok(())
 }
 
-/// How the first row ends where a read or a write of the devices fails: pieces and failing calls of the shelf and of the sink,
-/// the bytes written, and the status.
+/// How rows end where a read or a write of the devices fails: the words and the file, pieces and failing calls of the shelf and
+/// of the sink, the bytes written, and the status.
 #[test]
 fn devices_fail(rt: HostRuntime) -> Result<(), Fail> {
     let alloc = rt.alloc();
-    let whole = TWO_PORTS_LINES.as_bytes();
-    let rows = [
-        (0, 1, 0, whole, Status::Done),
-        (2, 1, 0, b"".as_slice(), Status::ReadFault),
-        (0, 1, 3, b"vi".as_slice(), Status::WriteFault),
-        (0, 0, 0, b"".as_slice(), Status::WriteFault),
+    let play = (
+        ["play", "stim=s", "until=25ps"].as_slice(),
+        play_rows::TWO_PORTS,
+        play_rows::TWO_PORTS_LINES,
+    );
+    let check = (
+        ["check", "lib=s"].as_slice(),
+        check_rows::RING,
+        "cell r s read\n",
+    );
+    let faults = [
+        (0, 1, 0, 1_000, Status::Done),
+        (2, 1, 0, 0, Status::ReadFault),
+        (0, 1, 3, 2, Status::WriteFault),
+        (0, 0, 0, 0, Status::WriteFault),
     ];
-    for (read, piece, write, written, status) in rows {
-        let words = words_of(alloc, &["play", "stim=s", "until=25ps"])?;
-        let mut shelf = MemShelf::new(
-            files_of(alloc, Some(TWO_PORTS))?,
-            1,
-            List::new(vec![in alloc; read]?),
-        );
-        let mut sink = MemSink::new(alloc, piece, List::new(vec![in alloc; write]?));
-        let ended = run(alloc, &words, &mut shelf, &mut sink);
-        assert_eq!(rt; ended, status);
-        assert_eq!(rt; sink.bytes(), written);
+    for (words, text, whole) in [play, check] {
+        for (read, piece, write, written, status) in faults {
+            let words = words_of(alloc, words)?;
+            let files = files_of(alloc, &[("s", text)])?;
+            let mut shelf = MemShelf::new(files, 1, List::new(vec![in alloc; read]?));
+            let mut sink = MemSink::new(alloc, piece, List::new(vec![in alloc; write]?));
+            let ended = run(alloc, &words, &mut shelf, &mut sink);
+            assert_eq!(rt; ended, status);
+            let count = whole.len().min(written);
+            assert_eq!(rt; sink.bytes(), &whole.as_bytes()[..count]);
+        }
+    }
+    Ok(())
+}
+
+/// A text that is made of a beginning, a part again and again, and an end.
+fn repeated(
+    alloc: Global,
+    start: &str,
+    part: &str,
+    count: u32,
+    end: &str,
+) -> Result<String, AllocError> {
+    let mut text = String::from_str(alloc, start)?;
+    for _ in 0..count {
+        text.push_str(part)?;
+    }
+    text.push_str(end)?;
+    Ok(text)
+}
+
+/// Packages, each on a line of its own.
+fn packages(alloc: Global, count: u32) -> Result<String, AllocError> {
+    let mut text = String::new(alloc);
+    for number in 0..count {
+        let unit = format!(in alloc; "package P{number} is end;\n")?;
+        text.push_str(unit.as_str())?;
+    }
+    Ok(text)
+}
+
+/// What is written, and the status, where the files `a`, `b` and `c` with these texts are checked.
+fn checked(alloc: Global, texts: [&str; 3]) -> Result<(MemSink, Status), AllocError> {
+    let [first, second, third] = texts;
+    let words = words_of(alloc, &["check", "lib=a", "lib=b", "lib=c"])?;
+    let files = files_of(alloc, &[("a", first), ("b", second), ("c", third)])?;
+    let mut shelf = MemShelf::new(files, 65_536, List::new(Vec::new(alloc)));
+    let mut sink = MemSink::new(alloc, 1_000, List::new(Vec::new(alloc)));
+    let status = run(alloc, &words, &mut shelf, &mut sink);
+    Ok((sink, status))
+}
+
+/// Each limit at its value, and one past it. The room of tokens is shared by the files: a library clause of one name is
+/// three of them, and each further name two more.
+#[test]
+fn limits_are_kept(rt: HostRuntime) -> Result<(), Fail> {
+    let alloc = rt.alloc();
+    let names = repeated(alloc, "library a", ",a", (MOST_TOKENS - 6) / 2, ";")?;
+    let most_units = packages(alloc, 4_096)?;
+    let units = packages(alloc, 4_095)?;
+    let deepest = repeated(alloc, "package P is constant C : T := ", "(", 64, ")")?;
+    let too_deep = repeated(alloc, "package P is constant C : T := ", "(", 65, ")")?;
+    let rows = [
+        (["library a;", names.as_str(), ""], "", 0),
+        (
+            ["library a;", names.as_str(), ";"],
+            "refused limit tokens c 1 1\n",
+            4,
+        ),
+        ([most_units.as_str(), "", ""], "", 0),
+        (
+            [units.as_str(), "package A is end;", " package B is end;"],
+            "refused limit units c 1 2\n",
+            4,
+        ),
+        ([deepest.as_str(), "", ""], "refused syntax a 1 96\n", 3),
+        (
+            [too_deep.as_str(), "", ""],
+            "refused limit nesting a 1 96\n",
+            4,
+        ),
+    ];
+    for (texts, written, status) in rows {
+        let (sink, ended) = checked(alloc, texts)?;
+        assert_eq!(rt; ended.number(), status, "at {written:?}");
+        assert_eq!(rt; sink.bytes(), written.as_bytes(), "at {written:?}");
     }
     Ok(())
 }

@@ -1,13 +1,14 @@
-ghost use Rattle.std.specs.Prelude.{◌≡◌, ℕ, ◌+◌, ◌<◌, ◌==◌, not, nat_le, List, [], ◌∷◌, ◌++◌, length, position, IfSome, MatchResult, is_some};
-ghost use Rattle.std.specs.Char.{is_ascii_digit};
-ghost use Rattle.std.specs.List.{list_all};
-ghost use Rattle.std.specs.Option.{option_map, option_copied};
-ghost use Rattle.vital_tool.specs.Words.{is_file_name, end_time, parts, value_in, play_keys, refusal, first_refusal, play_job, job};
-ghost use Rattle.vital_tool.specs.Given.{ArePlayValues, GivesJob, once_refusal};
+//! What the words of the command line ask for.
+
+ghost use Rattle.std.specs.Prelude.{◌≡◌, ◌+◌, ◌^◌, ◌<◌, [], length, Option, IfOk};
+ghost use Rattle.vital_tool.specs.Given.{GivesJob, HasFewFiles};
+ghost use Rattle.vital_report.specs.declared.line.UsageWhy.{UsageWhy as UsageWhy'};
+ghost use Rattle.vital_tool.specs.Words.{refusal, refusal_of, first_refusal, play_keys, play_job, check_keys, check_job, job};
 ghost use Rattle.vital_tool.specs.declared.words.JobError.TheVariants.{NoMemory};
 
+use crate::keys::{Key, end_time};
 use std::alloc::{AllocError, Global};
-use vital_base::{Name, Time, TimeUnit, Word, read_number};
+use vital_base::{List, Name, Time, Word};
 use vital_report::UsageWhy;
 
 /// What the words of the command line ask for.
@@ -15,6 +16,8 @@ use vital_report::UsageWhy;
 pub enum Job {
     /// Play a stimulus file.
     Play(Play),
+    /// Check the cells of a library.
+    Check(Check),
 }
 
 /// The words of `play`.
@@ -24,6 +27,13 @@ pub struct Play {
     pub stim: Name,
     /// The end time, in femtoseconds.
     pub until: Time,
+}
+
+/// The words of `check`.
+#[derive(Debug, Drop)]
+pub struct Check {
+    /// The files of the library in the order of their words, 1 to 16 of them.
+    pub libs: List<Name>,
 }
 
 /// Why there is no job.
@@ -48,12 +58,10 @@ pub struct UsageFault {
     pub why: UsageWhy,
 }
 
-/// How many bytes the name of a file may have.
-const LONGEST_FILE_NAME: usize = 4_096;
-
 /// What the words ask for, or the first fault from left to right; or want of memory.
 pub fn read_job(alloc: Global, words: &[Word]) -> Result<Job, JobError>
-    ensures { GivesJob result (job words.now) }
+    ensures job { GivesJob result (job words.now) }
+    ensures few_files { IfOk result HasFewFiles }
 {
     let refused = Err(JobError::Usage(UsageFault {
         word: 1,
@@ -64,144 +72,93 @@ pub fn read_job(alloc: Global, words: &[Word]) -> Result<Job, JobError>
         [command, others @ ..] if command.as_slice() == b"play".as_slice() => play_job(
             alloc, others,
         ),
+        [command, others @ ..] if command.as_slice() == b"check".as_slice() => check_job(
+            alloc, others,
+        ),
         _ => refused,
     }
 }
 
-fn play_job(alloc: Global, words: &[Word]) -> Result<Job, JobError>
-    ensures { GivesJob result (play_job words.now) }
+/// The fault where a key that must come is not among the words after the command.
+fn missing(words: &[Word]) -> JobError
+    requires { length words.now < 2 ^ 63 }
+    ensures { result ≡ JobError.Usage (record { word = length words.now + 2; why = UsageWhy.Missing }) }
 {
-    let values = play_values(words).map_err(JobError::Usage)?;
-    let missing = UsageFault {
+    JobError::Usage(UsageFault {
         word: words.len() as u64 + 2,
         why: UsageWhy::Missing,
-    };
-    let (Some(stim), Some(until)) = (values.stim, values.until.and_then(end_time)) else {
-        return Err(JobError::Usage(missing));
+    })
+}
+
+fn play_job(alloc: Global, words: &[Word]) -> Result<Job, JobError>
+    ensures job { GivesJob result (play_job words.now) }
+    ensures few_files { IfOk result HasFewFiles }
+{
+    if let Some(fault) = first_refusal(&[Key::Stim, Key::Until], words) {
+        return Err(JobError::Usage(fault));
+    }
+    let (Some(stim), Some(until)) = (
+        Key::Stim.value(words),
+        Key::Until.value(words).and_then(end_time),
+    ) else {
+        return Err(missing(words));
     };
     let stim = Name::new(Vec::from_slice(alloc, stim)?);
     Ok(Job::Play(Play { stim, until }))
 }
 
-/// The values that the words of `play` gave so far.
-#[derive(Clone, Copy)]
-struct PlayValues<'a> {
-    stim: Option<&'a [u8]>,
-    until: Option<&'a [u8]>,
+fn check_job(alloc: Global, words: &[Word]) -> Result<Job, JobError>
+    ensures job { GivesJob result (check_job words.now) }
+    ensures few_files { IfOk result HasFewFiles }
+{
+    if let Some(fault) = first_refusal(&[Key::Lib], words) {
+        return Err(JobError::Usage(fault));
+    }
+    let libs = Key::Lib.names(alloc, words)?;
+    if libs.is_empty() {
+        return Err(missing(words));
+    }
+    let libs = List::new(libs);
+    Ok(Job::Check(Check { libs }))
 }
 
-/// The values that the words give, where none is refused; else the first that is.
-fn play_values(words: &[Word]) -> Result<PlayValues<'_>, UsageFault>
-    ensures { MatchResult result
-        (λ values. (first_refusal play_keys [] 2 words.now ≡ None) × ArePlayValues values words.now)
-        (λ fault. first_refusal play_keys [] 2 words.now ≡ Some fault) }
+/// The first word after the command that is refused.
+fn first_refusal(keys: &[Key], words: &[Word]) -> Option<UsageFault>
+    ensures { result ≡ first_refusal keys.now [] 2 words.now }
 {
-    let mut values = PlayValues {
-        stim: None,
-        until: None,
-    };
     for (i, word) in words.iter().enumerate() {
-        values = match with_word(values, word.as_slice()) {
-            Ok(more) => more,
-            Err(why) => return Err(UsageFault {
+        if let Some(why) = refusal(keys, &words[..i], word.as_slice()) {
+            return Some(UsageFault {
                 word: i as u64 + 2,
                 why,
-            }),
-        };
+            });
+        }
     }
-    Ok(values)
+    None
 }
 
-/// The values once one more word is taken, or why it is refused after the words that gave these values.
-fn with_word<'a>(values: PlayValues<'a>, word: &'a [u8]) -> Result<PlayValues<'a>, UsageWhy>
-    ensures { (earlier : List (List ℕ)) → ArePlayValues values.entry earlier → MatchResult result
-        (λ more. (refusal play_keys earlier word.now ≡ None) × ArePlayValues more (earlier ++ word.now ∷ []))
-        (λ why. refusal play_keys earlier word.now ≡ Some why) }
+/// Why a word is refused after the earlier ones, where it is. The earlier words are counted each time: none of them was
+/// refused, so there are no more of them than all keys together may come.
+fn refusal(keys: &[Key], earlier: &[Word], word: &[u8]) -> Option<UsageWhy>
+    ensures { result ≡ refusal keys.now earlier.now word.now }
 {
-    if let Some(value) = value_in(b"stim", word) {
-        match refusal_once(values.stim, is_file_name(value)) {
-            Some(why) => Err(why),
-            None => Ok(PlayValues {
-                stim: Some(value),
-                until: values.until,
-            }),
+    for key in keys {
+        if let Some(value) = key.value_in(word) {
+            return refusal_of(*key, earlier, value);
         }
-    } else if let Some(value) = value_in(b"until", word) {
-        match refusal_once(values.until, end_time(value).is_some()) {
-            Some(why) => Err(why),
-            None => Ok(PlayValues {
-                stim: values.stim,
-                until: Some(value),
-            }),
-        }
-    } else {
-        Err(UsageWhy::Key)
     }
+    Some(UsageWhy::Key)
 }
 
-/// Why a key that may come once is refused after the value before it, where it is.
-fn refusal_once(before: Option<&[u8]>, is_good: bool) -> Option<UsageWhy>
-    ensures { result ≡ once_refusal (is_some before.entry) is_good }
+/// Why a word that gives this value to a key is refused after the earlier ones, where it is.
+fn refusal_of(key: Key, earlier: &[Word], value: &[u8]) -> Option<UsageWhy>
+    ensures { (others : Option UsageWhy') → result ≡ refusal_of key earlier.now (Some value.now) others }
 {
-    if before.is_some() {
+    if key.most() <= key.count(earlier) {
         Some(UsageWhy::Twice)
-    } else if is_good {
+    } else if key.takes(value) {
         None
     } else {
         Some(UsageWhy::Value)
     }
-}
-
-/// The value that a word gives to the key of a name.
-fn value_in<'a>(name: &[u8], word: &'a [u8]) -> Option<&'a [u8]>
-    ensures { option_copied result ≡ value_in name.now word.now }
-{
-    let (key, value) = parts(word)?;
-    if key == name { Some(value) } else { None }
-}
-
-fn is_file_name(value: &[u8]) -> bool
-    ensures { result ≡ is_file_name value.now }
-{
-    if value.is_empty() || value.len() > LONGEST_FILE_NAME {
-        return false;
-    }
-    all_printable(value)
-}
-
-fn all_printable(bytes: &[u8]) -> bool
-    ensures { result ≡ list_all (nat_le 32) bytes.now }
-{
-    bytes.iter().all(|byte| 32 <= *byte)
-}
-
-fn end_time(value: &[u8]) -> Option<Time>
-    ensures { result ≡ end_time value.now }
-{
-    let digits = first_non_digit(value)?;
-    let number = read_number(&value[..digits])?;
-    let unit = TimeUnit::named(&value[digits..])?;
-    unit.time(number)
-}
-
-fn first_non_digit(bytes: &[u8]) -> Option<usize>
-    ensures at { result ≡ position (λ byte. not (is_ascii_digit byte)) bytes.now }
-    ensures within { IfSome result (λ at. at < length bytes.now) }
-{
-    bytes.iter().position(|byte| !byte.is_ascii_digit())
-}
-
-/// The key and the value of a word, which its first `=` parts.
-fn parts(word: &[u8]) -> Option<(&[u8], &[u8])>
-    ensures { option_map (λ both. (both.0.now, both.1.now)) result ≡ parts word.now }
-{
-    let at = first_equals_sign(word)?;
-    Some((&word[..at], &word[at + 1..]))
-}
-
-fn first_equals_sign(word: &[u8]) -> Option<usize>
-    ensures at { result ≡ position (λ byte. byte == 61) word.now }
-    ensures within { IfSome result (λ at. at < length word.now) }
-{
-    word.iter().position(|byte| *byte == b'=')
 }

@@ -1,6 +1,7 @@
 use Rattle.std.proofs.Common.{◌++◌, []}
 use Rattle.vital_report.specs.Lines.{version, end, bytes_of}
-use Rattle.vital_tool.specs.Answer.{text_of, run_lines}
+use Rattle.vital_tool.specs.Answers.{text_of}
+use Rattle.vital_tool.specs.PlayAnswer.{run_lines}
 use Rattle.vital_tool.specs.Driver.{currents}
 use Rattle.vital_tool.specs.Play.{port_signals, first_state}
 use Rattle.vital_tool.specs.PlayText.{cycles_text}

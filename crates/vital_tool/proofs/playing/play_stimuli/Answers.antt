@@ -1,12 +1,13 @@
 use Rattle.std.proofs.Common.{length, sym, ap, subst, ◌∙◌}
 use Rattle.vital_tool.specs.declared.status.Status.TheVariants.{Done}
-use Rattle.vital_tool.specs.Answer.{Answer, text_of, run_lines, play_lines, unasked}
+use Rattle.vital_tool.specs.Answers.{Answer, text_of}
+use Rattle.vital_tool.specs.PlayAnswer.{run_lines, play_lines, unasked}
 use Rattle.vital_tool.specs.Play.{port_signals}
 use Rattle.vital_tool.specs.Run.{State}
 use Rattle.vital_tool.specs.Writes.{SinkState, WritesAll, WritesPrefix}
 use Rattle.vital_tool.proofs.Printing.{prints_all, prints_prefix}
 use Rattle.vital_tool.proofs.Sending.{after_initial, length-started, all_rise_sent}
-use Rattle.vital_tool.proofs.run.play_stimuli.Goals as goal
+use Rattle.vital_tool.proofs.playing.play_stimuli.Goals as goal
 
 pub play-requires-clause-one_each : goal.play-requires-clause-one_each
 play-requires-clause-one_each g c =

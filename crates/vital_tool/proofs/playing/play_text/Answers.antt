@@ -1,7 +1,7 @@
 use Rattle.std.proofs.Common.{sym, ap, ◌∙◌}
 use Rattle.vital_stim.specs.Stimuli.{stim}
 use Rattle.vital_tool.proofs.Printing.{text_of_fault}
-use Rattle.vital_tool.proofs.run.play_text.Goals as goal
+use Rattle.vital_tool.proofs.playing.play_text.Goals as goal
 
 pub play_stimuli-requires-clause-ports : goal.play_stimuli-requires-clause-ports
 play_stimuli-requires-clause-ports g c = λ k d lt. (c.in-Ok.ensures.fit k d lt).there

@@ -1,0 +1,111 @@
+//! Reading the texts of VHDL files.
+
+ghost use Rattle.std.specs.Prelude.{◌≡◌, ◌≤◌, List as List', Result, length, All};
+ghost use Rattle.vital_base.specs.declared.load.TheConstants.{LONGEST_FILE};
+ghost use Rattle.vital_tool.specs.CheckAnswer.{AreRead, offset_of, place_in, printed_lexical, text_refusal};
+ghost use Rattle.vital_tool.specs.Given.{GivesFiles, GivesFirst};
+ghost use Rattle.vital_tool.specs.declared.reading.Unread.TheVariants.{NoMemory};
+ghost use Rattle.vital_tool.specs.declared.refusal.Refusal.{Refusal as Refusal'};
+ghost use Rattle.vital_vhdl.specs.Outcomes.{IsReading};
+ghost use Rattle.vital_vhdl.specs.declared.reading.UnitError.{UnitError as UnitError'};
+ghost use Rattle.vital_vhdl.specs.declared.unit.Units.{Units as Units'};
+
+use crate::refusal::Refusal;
+use std::alloc::{AllocFailed, Global};
+use vital_base::{Bytes, List, Place};
+use vital_lex::{TextFault, Why, line_column};
+use vital_report::{LexicalWhy, Limit};
+use vital_vhdl::{Role, UnitError, Units, read_units};
+
+/// The most tokens that all files of a run have.
+pub const MOST_TOKENS: u32 = 4_194_304;
+
+/// Why files were not read.
+#[derive(Clone, Copy, Debug, PartialEq, Eq)]
+pub enum Unread {
+    Refused(Refusal),
+    NoMemory,
+}
+
+impl<T: Drop> From<AllocFailed<T>> for Unread {
+    ghost from_gives = { λ _ e. e ≡ NoMemory };
+
+    fn from(_error: AllocFailed<T>) -> Self {
+        Unread::NoMemory
+    }
+}
+
+/// The units of the files with these texts, which are numbered from 0; or how the first that is refused is.
+pub fn read_files(alloc: Global, texts: &[Bytes]) -> Result<List<Units>, Unread>
+    requires few { length texts.now ≤ 16 }
+    requires within { All (λ text. length text ≤ LONGEST_FILE) texts.now }
+    ensures { (outcome : Result (List' Units') Refusal') → AreRead 0 MOST_TOKENS texts.now outcome → GivesFiles result outcome }
+{
+    let mut files = Vec::new(alloc);
+    let mut room = MOST_TOKENS;
+    for (number, text) in texts.iter().enumerate() {
+        let units = read_text(alloc, number as u32, text.as_slice(), room)?;
+        room = room.saturating_sub(units.tokens);
+        files.push(units)?;
+    }
+    Ok(List::new(files))
+}
+
+/// The units of the file with this number and text, or how it is refused.
+fn read_text(alloc: Global, number: u32, text: &[u8], room: u32) -> Result<Units, Unread>
+    requires { length text.now ≤ LONGEST_FILE }
+    ensures { (first : Result Units' UnitError') → IsReading number Role.Lib text.now room first
+        → GivesFirst number text.now result first }
+{
+    match read_units(alloc, number, Role::Lib, text, room) {
+        Ok(units) => Ok(units),
+        Err(UnitError::Lex(fault)) => Err(Unread::Refused(text_refusal(number, text, fault))),
+        Err(UnitError::Refused { place }) => Err(Unread::Refused(Refusal::Syntax { place })),
+        Err(UnitError::NoMemory) => Err(Unread::NoMemory),
+    }
+}
+
+/// How a fault of a text, or a limit that it passes, is refused.
+fn text_refusal(number: u32, text: &[u8], fault: TextFault) -> Refusal
+    requires short { length text.now ≤ LONGEST_FILE }
+    requires inside { offset_of fault ≤ length text.now }
+    ensures { result ≡ text_refusal number text.now fault }
+{
+    match fault {
+        TextFault::Fault { offset, why } => Refusal::Lexical {
+            place: place_in(number, text, offset),
+            why: printed_lexical(why),
+        },
+        TextFault::TooManyTokens { offset } => Refusal::Limit {
+            limit: Limit::Tokens,
+            place: place_in(number, text, offset),
+        },
+        TextFault::TooDeep { offset } => Refusal::Limit {
+            limit: Limit::Nesting,
+            place: place_in(number, text, offset),
+        },
+    }
+}
+
+fn printed_lexical(why: Why) -> LexicalWhy
+    ensures { result ≡ printed_lexical why }
+{
+    match why {
+        Why::Character => LexicalWhy::Character,
+        Why::Unclosed => LexicalWhy::Unclosed,
+    }
+}
+
+/// The place of an offset in the text of the file with this number.
+fn place_in(number: u32, text: &[u8], offset: u32) -> Place
+    requires short { length text.now ≤ LONGEST_FILE }
+    requires inside { offset ≤ length text.now }
+    ensures { result ≡ place_in number text.now offset }
+{
+    let (line, column) = line_column(text, offset);
+    Place {
+        file: number,
+        line,
+        column,
+    }
+}
