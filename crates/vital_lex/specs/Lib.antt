@@ -9,3 +9,4 @@ pub mod Pieces
 pub mod Places
 pub mod Reading
 pub mod ReservedWords
+pub mod TextPosition

@@ -8,14 +8,14 @@ mod faults;
 mod kinds;
 mod lexemes;
 mod lexer;
-mod places;
+mod text_position;
 mod token_list;
 mod words;
 
 pub use faults::{LexError, TextFault, Why};
 pub use kinds::Kind;
 pub use lexer::{lex_vhdl, one_outcome};
-pub use places::line_column;
+pub use text_position::{TextPosition, line_column};
 pub use token_list::{Token, Tokens};
 
 #[cfg(test)]

@@ -304,11 +304,25 @@ fn limits(rt: HostRuntime) -> Result<(), Fail> {
     Ok(())
 }
 
+// Offsets of a text, each with its line and its column.
+static PLACES: [(u32, u32, u32); 5] = [(0, 1, 1), (2, 1, 3), (3, 2, 1), (4, 3, 1), (6, 3, 3)];
+
 #[test]
 fn places(rt: HostRuntime) -> Result<(), Fail> {
-    for (offset, line, column) in [(0, 1, 1), (2, 1, 3), (3, 2, 1), (4, 3, 1), (6, 3, 3)] {
-        assert_eq!(rt; line_column(b"ab\n\ncd", offset), (line, column));
+    let text = b"ab\n\ncd";
+    let middle = TextPosition::start(text).seek(text, 3);
+    for (offset, line, column) in &PLACES {
+        assert!(rt; *offset <= 6);
+        assert_eq!(rt; line_column(text, *offset), (*line, *column));
+        let position = middle.seek(text, *offset);
+        assert_eq!(rt; (position.line, position.column), (*line, *column));
     }
+    // Past the end it stays at the end.
+    let position = middle.seek(text, 9);
+    assert_eq!(rt;
+        (position.offset, position.line, position.column),
+        (6, 3, 3)
+    );
     Ok(())
 }
 

@@ -1,6 +1,6 @@
 use Rattle.std.proofs.Common.{◌≡◌, ◌+◌, ◌≤◌}
 use Rattle.vital_lex.specs.Places.{line_of, column_of}
-use Rattle.vital_lex.proofs.places.line_column.Given as goal
+use Rattle.vital_lex.proofs.text_position.TextPosition.forward.Given as goal
 
 abbrev pub invariant-loop-i : goal.invariant-loop-i
 invariant-loop-i l = record {
