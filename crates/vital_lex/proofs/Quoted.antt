@@ -5,7 +5,7 @@ use Rattle.std.proofs.lemmas.Bool.{and_left, ne_eqb, eq-eqb, cases_lt, cond-true
 use Rattle.vital_lex.specs.Bytes.{is_graphic}
 use Rattle.vital_lex.specs.Forms.{closes}
 use Rattle.vital_lex.specs.Pieces.{IsLongest, NoneFits}
-use Rattle.vital_lex.proofs.Ranges.{range-split, range-none, range-head, range-one, range-two}
+use Rattle.vital_lex.proofs.Ranges.{range-split, range-head, range-one, range-two}
 
 same : (mark : ℕ) → eqb mark mark ≡ true
 same mark = eq-eqb mark mark refl
@@ -42,14 +42,6 @@ abbrev pub LastClosed : ℕ → List ℕ → ℕ → ℕ → Option ℕ → Type
 LastClosed mark text at end closed = MatchOption closed (NoneClosed mark text at end) (IsLastClosed mark text at end)
 
 module _ (mark : ℕ) (text : List ℕ) (at : ℕ) where
-  pub open_first : IsOpen mark text at at
-  open_first = record { open_after = λ ys. ap (λ r. closes mark (r ++ ys)) (range-none text at) }
-
-  pub closed_first : LastClosed mark text at at None
-  closed_first = λ more above within.
-      let here : more ≡ at = omega arith in
-      ap (λ n. closes mark (slice_range text at n)) here ∙ ap (closes mark) (range-none text at)
-
   module _ (end : ℕ) (forward : at ≤ end) (open_here : IsOpen mark text at end) where
     beyond : (more : ℕ) → end ≤ more → closes mark (slice_range text at more) ≡ closes mark (slice_range text end more)
     beyond more above = ap (closes mark) (range-split text at end more forward above) ∙ open_here.open_after _
@@ -120,9 +112,6 @@ module _ (mark : ℕ) (text : List ℕ) (at : ℕ) where
             longest = λ more above within. ⊎_elim (λ past. none more past within) (λ up_to. b.last more above up_to) (cases_lt end more);
           }
         ] before
-
-    pub closed_at_end : (closed : Option ℕ) → end ≤ length text → length text ≤ end → LastClosed mark text at end closed → MatchOption closed (NoneFits (closes mark) text at) (IsLongest (closes mark) text at)
-    closed_at_end closed inside past before = all_closed closed inside before (λ more above within. absurd (omega arith))
 
     pub closed_at_other : (closed : Option ℕ) → end < length text → (get_or text end 0 ≡ mark → ⊥) → is_graphic (get_or text end 0) ≡ false → LastClosed mark text at end closed → MatchOption closed (NoneFits (closes mark) text at) (IsLongest (closes mark) text at)
     closed_at_other closed inside other graphic before =

@@ -2,10 +2,12 @@
 use Rattle.std.proofs.Common.{◌≡◌, ℕ, ◌<◌, ◌≤◌, [], ◌∷◌, ◌++◌, length, refl, ap, sym, subst, ◌∙◌, arith, Option, Some, Global, Vec}
 use Rattle.std.specs.Vec.{vec_len}
 use Rattle.std.proofs.lemmas.List.{length-map, map_push}
+use Rattle.vital_lex.specs.Bytes.{is_blank}
+use Rattle.vital_lex.specs.Finding.{IsRun}
 use Rattle.vital_lex.specs.Forms.{is_separator}
 use Rattle.vital_lex.specs.Nesting.{nesting, nesting_after}
-use Rattle.vital_lex.specs.Outcome.{IsRefused, why_at}
-use Rattle.vital_lex.specs.Pieces.{IsLongest, NoneFits, IsLexeme, is_lexeme, Lexeme, IsNext, separator, lexeme, token_of, last_kind}
+use Rattle.vital_lex.specs.Outcome.{IsRefused}
+use Rattle.vital_lex.specs.Pieces.{IsLongest, NoneFits, IsLexeme, Lexeme, IsNext, separator, lexeme, token_of, last_kind}
 use Rattle.vital_lex.specs.Reading.{IsReading}
 use Rattle.vital_lex.specs.declared.faults.TextFault.TheVariants as fault
 use Rattle.vital_lex.specs.declared.kinds.Kind.{Kind}
@@ -13,6 +15,7 @@ use Rattle.vital_lex.specs.declared.lexer.Lexer.{Lexer}
 use Rattle.vital_lex.specs.declared.token_list.Token.{Token}
 use Rattle.vital_lex.proofs.FoundLexemes.{moves}
 use Rattle.vital_lex.proofs.Limits.{last_kind-push, nesting-push, nesting_after_one, within_nesting, within_push}
+use Rattle.vital_lex.proofs.Separators.{past_blanks}
 use Rattle.vital_lex.proofs.Steps.{next_moves, no_empty_separator}
 
 module _ (lexer : Lexer) (r : IsReading lexer) where
@@ -36,10 +39,19 @@ module _ (lexer : Lexer) (r : IsReading lexer) where
     moves is_separator lexer.text.now lexer.at end no_empty_separator longest,
   )
 
-  -- neither
-  pub refused_stuck : lexer.at < length lexer.text.now → NoneFits is_separator lexer.text.now lexer.at → NoneFits (is_lexeme lexer.before) lexer.text.now lexer.at → IsRefused lexer.text.now lexer.room (fault.Fault lexer.at (why_at lexer.text.now lexer.at))
-  refused_stuck inside no_separator no_lexeme =
-      (r.lexemes, r.read.reaches, record { inside = inside; no_separator = no_separator; no_lexeme = subst (λ (b : Option Kind). NoneFits (is_lexeme b) lexer.text.now lexer.at) r.read.before_is no_lexeme }, refl)
+  -- blanks
+  pub past : (end : ℕ) → IsRun is_blank lexer.text.now lexer.at end → IsReading (record lexer { at = end })
+  past end passed = record {
+    size = r.size;
+    inside = passed.within;
+    lexemes = r.lexemes;
+    read = record {
+      reaches = record { row = past_blanks lexer.text.now r.lexemes lexer.at end passed r.read.reaches.row; within = r.read.reaches.within };
+      tokens_are = r.read.tokens_are;
+      before_is = r.read.before_is;
+      nesting_is = r.read.nesting_is;
+    };
+  }
 
   -- a lexeme
   module _ (separated : NoneFits is_separator lexer.text.now lexer.at) (k : Kind) (end : ℕ) (found : IsLexeme lexer.before lexer.text.now lexer.at end k) where

@@ -1,13 +1,15 @@
 -- The longest separator at an offset.
-use Rattle.std.proofs.Common.{◌≡◌, ℕ, ◌+◌, ◌<◌, ◌≤◌, Bool, true, false, not, ◌&&◌, ◌==◌, eqb, List, [], ◌∷◌, ◌++◌, length, get_or, refl, ap, sym, ◌∙◌, ⊎_elim, arith}
+use Rattle.std.proofs.Common.{◌≡◌, ℕ, zero, suc, ◌+◌, ◌-◌, ◌<◌, ◌≤◌, Bool, true, false, not, ◌&&◌, ◌==◌, eqb, List, [], ◌∷◌, ◌++◌, length, get_or, refl, ap, sym, subst, ◌∙◌, ⊎_elim, arith}
 use Rattle.std.specs.Prelude.{slice_range}
 use Rattle.std.specs.List.{list_all}
 use Rattle.std.proofs.lemmas.Bool.{and_parts, and_from, and_left, and_right, ne_eqb, eq-eqb, cases_lt, cases_eq, false≢true}
 use Rattle.vital_lex.specs.Bytes.{is_blank}
+use Rattle.vital_lex.specs.Finding.{IsRun}
 use Rattle.vital_lex.specs.Forms.{is_separator}
-use Rattle.vital_lex.specs.Pieces.{IsLongest, NoneFits}
+use Rattle.vital_lex.specs.Pieces.{IsLongest, NoneFits, Lexeme, Row, separator}
 use Rattle.vital_lex.proofs.Ranges.{range-split, range-none, range-head, range-one}
 
+-- what a comment goes over
 abbrev pub no_line_feed : ℕ → Bool
 no_line_feed = λ b. not (b == 10)
 
@@ -18,10 +20,10 @@ list_all-append test (x ∷ xs) ys h =
     ap (λ b. b && list_all test (xs ++ ys)) parts.0 ∙ list_all-append test xs ys parts.1
 
 module _ (text : List ℕ) where
-  pub passed_more : (at end : ℕ) → at ≤ end → end < length text → list_all no_line_feed (slice_range text at end) ≡ true → (get_or text end 0 ≡ 10 → ⊥) → list_all no_line_feed (slice_range text at (end + 1)) ≡ true
-  passed_more at end forward inside before other =
-      ap (list_all no_line_feed) (range-split text at end (end + 1) forward (omega arith)) ∙ list_all-append no_line_feed (slice_range text at end) (slice_range text end (end + 1)) before
-      ∙ ap (list_all no_line_feed) (range-one text end inside) ∙ and_from _ true (ap not (ne_eqb _ 10 other)) refl
+  pub run_more : (class : ℕ → Bool) (at end : ℕ) → at ≤ end → end < length text → list_all class (slice_range text at end) ≡ true → class (get_or text end 0) ≡ true → list_all class (slice_range text at (end + 1)) ≡ true
+  run_more class at end forward inside before here =
+      ap (list_all class) (range-split text at end (end + 1) forward (omega arith)) ∙ list_all-append class (slice_range text at end) (slice_range text end (end + 1)) before
+      ∙ ap (list_all class) (range-one text end inside) ∙ and_from _ true here refl
 
   module _ (at : ℕ) (inside : at < length text) where
     no_dash : (b : ℕ) → is_blank b ≡ true → eqb b 45 ≡ false
@@ -37,8 +39,9 @@ module _ (text : List ℕ) where
           ∙ and_left (eqb (get_or text at 0) 45 && eqb (get_or text (at + 1) 0) 45) (list_all no_line_feed (slice_range text (at + 1 + 1) more)) (and_left (eqb (get_or text at 0) 45) _ (no_dash (get_or text at 0) blank));
     }
 
-    pub comment_is_longest : (end : ℕ) → get_or text at 0 ≡ 45 → at + 1 < length text → get_or text (at + 1) 0 ≡ 45 → at + 2 ≤ end → end ≤ length text → list_all no_line_feed (slice_range text (at + 2) end) ≡ true → (end < length text → get_or text end 0 ≡ 10) → IsLongest is_separator text at end
-    comment_is_longest end first more_than_one second forward within passed stops =
+    pub comment_is_longest : (end : ℕ) → get_or text at 0 ≡ 45 → at + 1 < length text → get_or text (at + 1) 0 ≡ 45 → IsRun no_line_feed text (at + 2) end → IsLongest is_separator text at end
+    comment_is_longest end first more_than_one second run =
+        let forward : at + 2 ≤ end = run.forward in
         let next : at + 1 + 1 ≡ at + 2 = omega arith in
         let body : (e : ℕ) → at + 2 ≤ e → e ≤ length text → is_separator (slice_range text at e) ≡ list_all no_line_feed (slice_range text (at + 2) e) = λ e above e_within.
         ap is_separator (range-head text at e (omega arith) e_within ∙ ap (λ r. get_or text at 0 ∷ r) (range-head text (at + 1) e (omega arith) e_within ∙ ap (λ n. get_or text (at + 1) 0 ∷ slice_range text n e) next))
@@ -46,13 +49,13 @@ module _ (text : List ℕ) where
         ∙ ap (λ b. b && list_all no_line_feed (slice_range text (at + 2) e)) (eq-eqb _ 45 second) in
         record {
           forward = omega arith;
-          within = within;
-          passes = body end forward within ∙ passed;
+          within = run.within;
+          passes = body end forward run.within ∙ run.passes;
           longest = λ more above more_within.
               body more (omega arith) more_within
-              ∙ ap (list_all no_line_feed) (range-split text (at + 2) end more forward (omega arith)) ∙ list_all-append no_line_feed (slice_range text (at + 2) end) (slice_range text end more) passed
+              ∙ ap (list_all no_line_feed) (range-split text (at + 2) end more forward (omega arith)) ∙ list_all-append no_line_feed (slice_range text (at + 2) end) (slice_range text end more) run.passes
               ∙ ap (list_all no_line_feed) (range-head text end more above more_within)
-              ∙ and_left (no_line_feed (get_or text end 0)) (list_all no_line_feed (slice_range text (end + 1) more)) (ap no_line_feed (stops (omega arith)));
+              ∙ and_left (no_line_feed (get_or text end 0)) (list_all no_line_feed (slice_range text (end + 1) more)) (run.stops (omega arith));
         }
 
     pub no_separator : is_blank (get_or text at 0) ≡ false → (get_or text at 0 ≡ 45 → at + 1 < length text → get_or text (at + 1) 0 ≡ 45 → ⊥) → NoneFits is_separator text at
@@ -71,3 +74,15 @@ module _ (text : List ℕ) where
         (cases_lt (at + 1) e))
         (λ none. let here : e ≡ at = omega arith in ap (λ n. is_separator (slice_range text at n)) here ∙ ap is_separator (range-none text at))
         (cases_lt at e)
+
+-- blanks after a row of pieces belong to it, one piece each
+module _ (text : List ℕ) (lexemes : List Lexeme) where
+  blanks : (n at end : ℕ) → at + n ≡ end → end ≤ length text → list_all is_blank (slice_range text at end) ≡ true → Row text at lexemes → Row text end lexemes
+  blanks zero at end count within all row = let here : at ≡ end = omega arith in subst (λ (a : ℕ). Row text a lexemes) here row
+  blanks (suc n) at end count within all row =
+      let some : at < end = omega arith in
+      let parts = and_parts (is_blank (get_or text at 0)) (list_all is_blank (slice_range text (at + 1) end)) (sym (ap (list_all is_blank) (range-head text at end some within)) ∙ all) in
+      blanks n (at + 1) end (omega arith) within parts.1 (separator row (blank_is_longest text at (omega arith) parts.0))
+
+  pub past_blanks : (at end : ℕ) → IsRun is_blank text at end → Row text at lexemes → Row text end lexemes
+  past_blanks at end passed row = let forward : at ≤ end = passed.forward in blanks (end - at) at end (omega arith) passed.within passed.passes row

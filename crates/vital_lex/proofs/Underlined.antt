@@ -2,6 +2,7 @@
 use Rattle.std.proofs.Common.{◌≡◌, ℕ, ◌+◌, ◌<◌, ◌≤◌, Bool, true, false, ◌&&◌, eqb, List, [], ◌∷◌, ◌++◌, length, get_or, refl, ap, sym, ◌∙◌, ⊎_elim, arith}
 use Rattle.std.specs.Prelude.{slice_range}
 use Rattle.std.proofs.lemmas.Bool.{and_parts, and_from, and_left, and_right, or_cases, or_left, or_right, or_from, eq-eqb, ne_eqb, cases_lt, cases_eq, false≢true}
+use Rattle.vital_lex.specs.Finding.{IsUnderlinedRun}
 use Rattle.vital_lex.specs.Forms.{begins, continues, are_underlined}
 use Rattle.vital_lex.specs.Pieces.{IsLongest, NoneFits}
 use Rattle.vital_lex.proofs.Ranges.{range-split, range-none, range-head, range-one, range-two}
@@ -24,12 +25,6 @@ are_underlined-append class (x ∷ xs) ys h =
     ap (λ b. b && are_underlined class (xs ++ ys)) (continues-append class (x ∷ xs) ys parts.0) ∙ are_underlined-append class xs ys parts.1
 
 module _ (class : ℕ → Bool) (text : List ℕ) where
-  -- nothing of the class, and no underline before it, stands at the end of a text or before it
-  pub stops_at_end : (end : ℕ) → length text ≤ end → NoneFits (continues class) text end
-  stops_at_end end past = λ e above within.
-      let same : e ≡ end = omega arith in
-      ap (λ n. continues class (slice_range text end n)) same ∙ ap (continues class) (range-none text end)
-
   pub stops_before : (end : ℕ) → class (get_or text end 0) ≡ false → (get_or text end 0 ≡ 95 → end + 1 < length text → class (get_or text (end + 1) 0) ≡ false) → NoneFits (continues class) text end
   stops_before end other after = λ e above within.
       ⊎_elim
@@ -60,14 +55,16 @@ module _ (class : ℕ → Bool) (text : List ℕ) where
       ∙ ap (are_underlined class) (range-two text end inside)
       ∙ and_from _ _ (or_right _ _ (and_from _ _ (eq-eqb _ 95 underline) here)) (and_from _ true (or_left _ _ here) refl)
 
-  -- bytes that begin as they ought to and go on up to a stop are the longest that fit
-  pub underlined_longest : (first : ℕ → Bool) (at end : ℕ) → at < end → end ≤ length text → first (get_or text at 0) ≡ true → are_underlined class (slice_range text at end) ≡ true → NoneFits (continues class) text end → IsLongest (λ w. begins first w && are_underlined class w) text at end
-  underlined_longest first at end forward inside begun joined stop = record {
-    forward = omega arith;
-    within = inside;
-    passes = and_from _ _ (ap (begins first) (range-head text at end forward inside) ∙ begun) joined;
-    longest = λ more above within. and_right (begins first (slice_range text at more)) _
-        (ap (are_underlined class) (range-split text at end more (omega arith) (omega arith)) ∙ are_underlined-append class _ _ joined
-        ∙ ap (are_underlined class) (range-head text end more above within)
-        ∙ and_left _ _ (sym (ap (continues class) (range-head text end more above within)) ∙ stop more (omega arith) within));
-  }
+  -- where bytes begin as they ought to, those up to a stop are the longest that fit
+  pub underlined_longest : (first : ℕ → Bool) (at end : ℕ) → first (get_or text at 0) ≡ true → IsUnderlinedRun class text at end → IsLongest (λ w. begins first w && are_underlined class w) text at end
+  underlined_longest first at end begun run =
+      let forward : at < end = run.forward in
+      record {
+        forward = omega arith;
+        within = run.within;
+        passes = and_from _ _ (ap (begins first) (range-head text at end run.forward run.within) ∙ begun) run.joined;
+        longest = λ more above within. and_right (begins first (slice_range text at more)) _
+            (ap (are_underlined class) (range-split text at end more (omega arith) (omega arith)) ∙ are_underlined-append class _ _ run.joined
+            ∙ ap (are_underlined class) (range-head text end more above within)
+            ∙ and_left _ _ (sym (ap (continues class) (range-head text end more above within)) ∙ run.stops more (omega arith) within));
+      }

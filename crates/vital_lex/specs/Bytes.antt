@@ -1,17 +1,14 @@
 -- The characters of a text, one byte each (IEEE 1076-1993, 13.1).
-use Rattle.std.specs.Prelude.{ℕ, ◌+◌, Bool, ◌&&◌, ◌||◌, ◌==◌, nat_le, if◌then◌else◌}
-
--- an upper case letter A to Z
-abbrev pub is_upper : ℕ → Bool
-is_upper b = nat_le 65 b && nat_le b 90
+use Rattle.std.specs.Prelude.{ℕ, Bool, ◌&&◌, ◌||◌, ◌==◌, nat_le}
+use Rattle.std.specs.Char.{is_ascii_alphabetic, is_ascii_digit, to_ascii_lowercase}
 
 -- a letter: A to Z or a to z
 abbrev pub is_letter : ℕ → Bool
-is_letter b = is_upper b || (nat_le 97 b && nat_le b 122)
+is_letter b = is_ascii_alphabetic b
 
 -- a digit: 0 to 9
 abbrev pub is_digit : ℕ → Bool
-is_digit b = nat_le 48 b && nat_le b 57
+is_digit b = is_ascii_digit b
 
 -- a letter or a digit
 abbrev pub is_letter_or_digit : ℕ → Bool
@@ -27,4 +24,4 @@ is_blank b = b == 32 || (nat_le 9 b && nat_le b 13)
 
 -- the lower case of a letter A to Z, and every other byte as it is
 abbrev pub lower_case : ℕ → ℕ
-lower_case b = if is_upper b then b + 32 else b
+lower_case b = to_ascii_lowercase b

@@ -1,11 +1,26 @@
 -- What is found at an offset of a text.
-use Rattle.std.specs.Prelude.{◌≡◌, ℕ, ◌+◌, ◌<◌, Bool, ◌||◌, ◌==◌, List, [], ◌∷◌, length, slice_index, Option, Some, None, MatchOption}
+use Rattle.std.specs.Prelude.{◌≡◌, ℕ, ◌+◌, ◌<◌, ◌≤◌, Bool, true, false, ◌||◌, ◌==◌, List, [], ◌∷◌, length, slice_index, slice_range, Option, Some, None, MatchOption}
+use Rattle.std.specs.List.{list_all}
 use Rattle.vital_lex.specs.Bytes.{is_letter, is_digit}
 use Rattle.vital_lex.specs.Delimiters.{delimiters}
-use Rattle.vital_lex.specs.Forms.{kind_in}
+use Rattle.vital_lex.specs.Forms.{kind_in, continues, are_underlined}
 use Rattle.vital_lex.specs.Pieces.{IsLexeme, NoneFits, is_lexeme}
 use Rattle.vital_lex.specs.declared.kinds.Kind.{Kind}
 use Rattle.vital_lex.specs.declared.lexemes.Found.{Found}
+
+-- The bytes from `at` up to `end` are of the class, and the one at `end` is not, if there is one.
+pub record IsRun (class : ℕ → Bool) (text : List ℕ) (at end : ℕ) : Type 0 where
+  pub forward : at ≤ end
+  pub within : end ≤ length text
+  pub passes : list_all class (slice_range text at end) ≡ true
+  pub stops : end < length text → class (slice_index text end) ≡ false
+
+-- The bytes from `at` up to `end` are of the class, with underlines between them, and more do not follow.
+pub record IsUnderlinedRun (class : ℕ → Bool) (text : List ℕ) (at end : ℕ) : Type 0 where
+  pub forward : at < end
+  pub within : end ≤ length text
+  pub joined : are_underlined class (slice_range text at end) ≡ true
+  pub stops : NoneFits (continues class) text end
 
 -- A byte that begins an identifier or a literal, or is an apostrophe.
 abbrev pub begins_word_or_literal : ℕ → Bool

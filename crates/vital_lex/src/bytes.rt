@@ -1,25 +1,7 @@
 //! Classes of bytes.
 
-ghost use Rattle.std.specs.Prelude.{◌≡◌};
+ghost use Rattle.std.specs.Prelude.{◌≡◌, ℕ, Bool, not, ◌==◌};
 ghost use Rattle.vital_lex.specs.Bytes as spec;
-
-pub fn is_letter(b: u8) -> bool
-    ensures { result ≡ spec.is_letter b }
-{
-    matches!(b, b'A'..=b'Z' | b'a'..=b'z')
-}
-
-pub fn is_digit(b: u8) -> bool
-    ensures { result ≡ spec.is_digit b }
-{
-    matches!(b, b'0'..=b'9')
-}
-
-pub fn is_letter_or_digit(b: u8) -> bool
-    ensures { result ≡ spec.is_letter_or_digit b }
-{
-    is_letter(b) || is_digit(b)
-}
 
 pub fn is_graphic(b: u8) -> bool
     ensures { result ≡ spec.is_graphic b }
@@ -27,14 +9,60 @@ pub fn is_graphic(b: u8) -> bool
     matches!(b, 0x20..=0x7E | 0xA0..=0xFF)
 }
 
-pub fn is_blank(b: u8) -> bool
-    ensures { result ≡ spec.is_blank b }
-{
-    matches!(b, b' ' | 9..=13)
-}
-
 pub fn lower_case(b: u8) -> u8
     ensures { result ≡ spec.lower_case b }
 {
-    if b.is_ascii_uppercase() { b + 32 } else { b }
+    b.to_ascii_lowercase()
+}
+
+/// A class of bytes, for the loops over bytes of one class.
+pub trait ByteClass {
+    ghost has: { ℕ → Bool };
+
+    fn has(byte: u8) -> bool
+        ensures { result ≡ has byte };
+}
+
+/// The letters and the digits.
+pub struct LettersAndDigits;
+
+impl ByteClass for LettersAndDigits {
+    ghost has = { spec.is_letter_or_digit };
+
+    fn has(byte: u8) -> bool {
+        byte.is_ascii_alphanumeric()
+    }
+}
+
+/// The digits.
+pub struct Digits;
+
+impl ByteClass for Digits {
+    ghost has = { spec.is_digit };
+
+    fn has(byte: u8) -> bool {
+        byte.is_ascii_digit()
+    }
+}
+
+/// The blanks.
+pub struct Blanks;
+
+impl ByteClass for Blanks {
+    ghost has = { spec.is_blank };
+
+    fn has(byte: u8) -> bool {
+        matches!(byte, b' ' | 9..=13)
+    }
+}
+
+/// All bytes but LF, which a comment may have.
+pub struct CommentBytes;
+
+impl ByteClass for CommentBytes {
+    ghost has = { λ b. not (b == 10) };
+
+    fn has(byte: u8) -> bool {
+        byte != b'\n'
+    }
 }

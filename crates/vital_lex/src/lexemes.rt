@@ -4,7 +4,7 @@ ghost use Rattle.std.specs.Prelude.{◌≡◌, ◌<◌, false, length, slice_ind
 ghost use Rattle.vital_lex.specs.Finding.{begins_word_or_literal, IsCompound, IsFound};
 ghost use Rattle.vital_lex.specs.Forms.{takes_tick};
 
-use crate::bytes::{is_digit, is_graphic, is_letter};
+use crate::bytes::is_graphic;
 use crate::delimiters::{compound_delimiter, delimiter};
 use crate::ends::{identifier_end, number_end, quoted_end};
 use crate::kinds::Kind;
@@ -110,12 +110,12 @@ pub fn lexeme_at(text: &[u8], at: usize, before: Option<Kind>) -> Option<Found>
     ensures { IsFound before text.now at result }
 {
     let first = text[at];
-    if is_letter(first) {
+    if first.is_ascii_alphabetic() {
         let end = identifier_end(text, at);
         let kind = word_kind(&text[at..end]);
         return Some(Found { kind, end });
     }
-    if is_digit(first) {
+    if first.is_ascii_digit() {
         let end = number_end(text, at);
         return Some(Found {
             kind: Kind::Number,

@@ -1,12 +1,14 @@
 //! Reading a whole text.
 
-ghost use Rattle.std.specs.Prelude.{◌≡◌, ◌<◌, ◌≤◌, ℕ, List, length, Result, OnOk, IfOk};
+ghost use Rattle.std.specs.Prelude.{◌≡◌, ◌<◌, ◌≤◌, ℕ, false, List, length, slice_index, Result, OnOk, IfOk};
+ghost use Rattle.vital_lex.specs.Bytes as spec;
 ghost use Rattle.vital_lex.specs.Forms.{is_separator};
 ghost use Rattle.vital_lex.specs.Nesting.{nesting_after};
 ghost use Rattle.vital_lex.specs.Outcome.{Gives, IsOutcome, IsRefused, why_at};
 ghost use Rattle.vital_lex.specs.Pieces.{IsLexeme, Lexes, LexFault, NoneFits};
 
-use crate::ends::separator_end;
+use crate::bytes::Blanks;
+use crate::ends::{comment_end, run_end};
 use crate::faults::{LexError, TextFault, Why};
 use crate::kinds::Kind;
 use crate::lexemes::{Found, lexeme_at};
@@ -94,7 +96,18 @@ impl Lexer<'_> {
         Ok(())
     }
 
-    /// Takes the piece at `at`.
+    /// Passes over the blanks at `at`.
+    fn pass_blanks(&mut self)
+        requires { IsReading self.old }
+        ensures same { (self.new.text.now ≡ self.old.text.now) × (self.new.room ≡ self.old.room) }
+        ensures reading { IsReading self.new }
+        ensures forward { self.old.at ≤ self.new.at }
+        ensures stops { self.new.at < length self.new.text.now → spec.is_blank (slice_index self.new.text.now self.new.at) ≡ false }
+    {
+        self.at = run_end::<Blanks>(self.text, self.at);
+    }
+
+    /// Takes the blanks at `at`, and the comment or the lexeme after them.
     fn advance(&mut self) -> Result<(), LexError>
         requires reading { IsReading self.old }
         requires inside { self.old.at < length self.old.text.now }
@@ -102,7 +115,11 @@ impl Lexer<'_> {
         ensures ok { OnOk result (IsReading self.new × (self.old.at < self.new.at)) }
         ensures refused { (fault : TextFault) → result ≡ Err (LexError.Text fault) → IsRefused self.old.text.now self.old.room fault }
     {
-        if let Some(end) = separator_end(self.text, self.at) {
+        self.pass_blanks();
+        if self.at == self.text.len() {
+            return Ok(());
+        }
+        if let Some(end) = comment_end(self.text, self.at) {
             self.at = end;
             return Ok(());
         }

@@ -1,5 +1,6 @@
 ghost use Rattle.std.specs.Prelude.{◌≡◌, List, [], ◌∷◌, codes, map, true, false};
-ghost use Rattle.vital_lex.specs.Forms.{is_basic_identifier, is_character_literal, is_extended_identifier, is_number, is_separator, is_string_literal};
+ghost use Rattle.vital_lex.specs.Bytes.{is_blank, is_graphic, is_letter, lower_case};
+ghost use Rattle.vital_lex.specs.Forms.{word_kind, is_basic_identifier, is_character_literal, is_extended_identifier, is_number, is_separator, is_string_literal};
 ghost use Rattle.vital_lex.specs.Places.{line_of, column_of};
 
 use super::*;
@@ -151,6 +152,7 @@ static FAULTS: [(&[u8], u32, Why); 16] = [
 ];
 
 // What the definitions say of some rows.
+#[tactic(auto, unfolding(crate::specs::Forms::word_kind))]
 fn definitions_on_rows()
     ensures identifiers { map is_basic_identifier (codes "a_b1" ∷ codes "a__b" ∷ codes "_a" ∷ codes "a_" ∷ codes "1a" ∷ [])
         ≡ true ∷ false ∷ false ∷ false ∷ false ∷ [] }
@@ -166,6 +168,17 @@ fn definitions_on_rows()
         ≡ true ∷ true ∷ false ∷ false ∷ [] }
     ensures separators { map is_separator (codes " " ∷ codes "--x" ∷ codes "  " ∷ codes "-" ∷ [])
         ≡ true ∷ true ∷ false ∷ false ∷ [] }
+    // 0x1F, 0x20, 0x7E, 0x7F, 0x80, 0x9F, 0xA0 and 0xFF
+    ensures graphic { map is_graphic (0x1F ∷ 0x20 ∷ 0x7E ∷ 0x7F ∷ 0x80 ∷ 0x9F ∷ 0xA0 ∷ 0xFF ∷ [])
+        ≡ false ∷ true ∷ true ∷ false ∷ false ∷ false ∷ true ∷ true ∷ [] }
+    ensures blanks { map is_blank (0x08 ∷ 0x09 ∷ 0x0D ∷ 0x0E ∷ 0x1F ∷ 0x20 ∷ 0x21 ∷ 0xA0 ∷ [])
+        ≡ false ∷ true ∷ true ∷ false ∷ false ∷ true ∷ false ∷ false ∷ [] }
+    // `@AZ[`, then a grave accent, `az{`
+    ensures letters { map is_letter (0x40 ∷ 0x41 ∷ 0x5A ∷ 0x5B ∷ 0x60 ∷ 0x61 ∷ 0x7A ∷ 0x7B ∷ [])
+        ≡ false ∷ true ∷ true ∷ false ∷ false ∷ true ∷ true ∷ false ∷ [] }
+    ensures lower { map lower_case (0x40 ∷ 0x41 ∷ 0x5A ∷ 0x5B ∷ 0xC0 ∷ []) ≡ 0x40 ∷ 0x61 ∷ 0x7A ∷ 0x5B ∷ 0xC0 ∷ [] }
+    ensures words { map word_kind (codes "aBs" ∷ codes "xOR" ∷ codes "hold" ∷ codes "xorb" ∷ [])
+        ≡ Kind.Abs ∷ Kind.Xor ∷ Kind.Identifier ∷ Kind.Identifier ∷ [] }
     ensures line { line_of (97 ∷ 10 ∷ 98 ∷ []) 3 ≡ 2 }
     ensures column { column_of (97 ∷ 10 ∷ 98 ∷ []) 3 ≡ 2 }
 {}
@@ -214,8 +227,51 @@ fn lexical_rules(rt: HostRuntime) -> Result<(), Fail> {
     Ok(())
 }
 
+// A byte, whether it parts lexemes, and whether it may stand in a literal.
+static EDGES: [(u8, bool, bool); 12] = [
+    (0x08, false, false),
+    (0x09, true, false),
+    (0x0D, true, false),
+    (0x0E, false, false),
+    (0x1F, false, false),
+    (0x20, true, true),
+    (0x7E, false, true),
+    (0x7F, false, false),
+    (0x80, false, false),
+    (0x9F, false, false),
+    (0xA0, false, true),
+    (0xFF, false, true),
+];
+
+// A mark, what stands between two of them, and why it does not.
+static MARKS: [(u8, Kind, Why); 3] = [
+    (b'"', Kind::StringLiteral, UNCLOSED),
+    (b'\'', Kind::CharacterLiteral, CHARACTER),
+    (b'\\', Kind::ExtendedIdentifier, UNCLOSED),
+];
+
+#[test]
+fn bytes_at_the_edges_of_classes(rt: HostRuntime) -> Result<(), Fail> {
+    for (byte, parts, graphic) in &EDGES {
+        let fault = |why| Some(TextFault::Fault { offset: 0, why });
+        let outside = if *parts { None } else { fault(CHARACTER) };
+        assert!(rt; refusal(&rt, &[*byte], 0) == outside, "{byte}");
+        assert!(rt; refusal(&rt, &[b'-', b'-', *byte], 0) == None, "{byte}");
+        for (mark, kind, why) in &MARKS {
+            let text = [*mark, *byte, *mark];
+            if *graphic {
+                let found = lex_vhdl(rt.alloc(), &text, 1)?;
+                assert!(rt; agree(found.as_slice(), &[(*kind, 0, 3)]), "{text:?}");
+            } else {
+                assert!(rt; refusal(&rt, &text, 1) == fault(*why), "{text:?}");
+            }
+        }
+    }
+    Ok(())
+}
+
 // A piece so many times and a last one, the room for tokens, and how that is refused.
-static LIMITS: [(&[u8], usize, &[u8], u32, Option<TextFault>); 20] = [
+static LIMITS: [(&[u8], usize, &[u8], u32, Option<TextFault>); 19] = [
     (b"", 0, b"", 0, None),
     (
         b"",
@@ -254,16 +310,6 @@ static LIMITS: [(&[u8], usize, &[u8], u32, Option<TextFault>); 20] = [
         64,
         Some(TextFault::TooManyTokens { offset: 64 }),
     ),
-    (
-        b"(",
-        64,
-        b" ? (",
-        99,
-        Some(TextFault::Fault {
-            offset: 65,
-            why: CHARACTER,
-        }),
-    ),
     (b")", 3, b"(", 99, None),
     (b"if ", 64, b"end if if", 99, None),
     (b"Block ", 64, b"end Block block", 99, None),
@@ -298,6 +344,9 @@ fn limits(rt: HostRuntime) -> Result<(), Fail> {
         let text = repeated(rt.alloc(), piece, *count, last)?;
         assert!(rt; refusal(&rt, &text, *room) == *fault, "{text:?}");
     }
+    // The longest text.
+    let blanks = vec![in rt.alloc(); b' '; 16_777_216]?;
+    assert!(rt; lex_vhdl(rt.alloc(), &blanks, 0)?.as_slice().is_empty());
     // Nesting does not fall below 0.
     let text = repeated(rt.alloc(), b")", 3, &repeated(rt.alloc(), b"(", 65, b"")?)?;
     assert!(rt; refusal(&rt, &text, 99) == Some(TextFault::TooDeep { offset: 67 }));

@@ -1,15 +1,14 @@
 use Rattle.std.proofs.Common.{◌≡◌, ◌-◌, ◌≤◌, true, length}
 use Rattle.std.specs.Prelude.{slice_range}
 use Rattle.std.specs.List.{list_all}
-use Rattle.vital_lex.proofs.Separators.{no_line_feed}
-use Rattle.vital_lex.proofs.ends.line_end.Given as goal
+use Rattle.vital_lex.proofs.ends.run_end.Given as goal
 
 abbrev pub invariant-loop-end : goal.invariant-loop-end
-invariant-loop-end l = record {
+invariant-loop-end g l = record {
   forward : l.at ≤ l.end;
   within : l.end ≤ length l.text;
-  passed : list_all no_line_feed (slice_range l.text l.at l.end) ≡ true;
+  passes : list_all g.C.ByteClass.has (slice_range l.text l.at l.end) ≡ true;
 }
 
 abbrev pub decreases-loop-end : goal.decreases-loop-end
-decreases-loop-end l = length l.text - l.end
+decreases-loop-end g l = length l.text - l.end
