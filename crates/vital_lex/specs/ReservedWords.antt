@@ -1,5 +1,7 @@
 -- The 97 reserved words (IEEE 1076-1993, 13.9), each with its kind.
-use Rattle.std.specs.Prelude.{ℕ, List, [], ◌∷◌, codes}
+use Rattle.std.specs.Prelude.{ℕ, Bool, true, ◌&&◌, List, [], ◌∷◌, codes}
+use Rattle.std.specs.Cmp.Lexicographic.{slice_cmp}
+use Rattle.std.specs.Ordering.{nat_cmp, is_lt}
 use Rattle.vital_lex.specs.declared.kinds.Kind.{Kind}
 use Rattle.vital_lex.specs.declared.kinds.Kind.TheVariants as kind
 
@@ -104,3 +106,9 @@ reserved_words =
     (codes "xnor", kind.Xnor) ∷
     (codes "xor", kind.Xor) ∷
     []
+
+-- Each word stands before the next one in alphabetical order.
+abbrev pub are_alphabetical : List (List ℕ) → Bool
+are_alphabetical [] = true
+are_alphabetical (word ∷ []) = true
+are_alphabetical (word ∷ next ∷ words) = is_lt (slice_cmp nat_cmp word next) && are_alphabetical (next ∷ words)

@@ -9,12 +9,6 @@ pub fn is_graphic(b: u8) -> bool
     matches!(b, 0x20..=0x7E | 0xA0..=0xFF)
 }
 
-pub fn lower_case(b: u8) -> u8
-    ensures { result ≡ spec.lower_case b }
-{
-    b.to_ascii_lowercase()
-}
-
 /// A class of bytes, for the loops over bytes of one class.
 pub trait ByteClass {
     ghost has: { ℕ → Bool };

@@ -17,6 +17,7 @@ pub use kinds::Kind;
 pub use lexer::{lex_vhdl, one_outcome};
 pub use text_position::{TextPosition, line_column};
 pub use token_list::{Token, Tokens};
+pub use words::reserved_words_in_order;
 
 #[cfg(test)]
 mod tests;

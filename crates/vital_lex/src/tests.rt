@@ -378,6 +378,7 @@ fn places(rt: HostRuntime) -> Result<(), Fail> {
 #[test]
 fn lists(rt: HostRuntime) -> Result<(), Fail> {
     one_outcome();
+    reserved_words_in_order();
     definitions_on_rows();
     let token = Token {
         kind: Kind::Xor.number(),

@@ -1,14 +1,17 @@
 //! Reserved words (IEEE 1076-1993, 13.9).
 
-ghost use Rattle.std.specs.Prelude.{◌≡◌, ◌<◌, ◌∷◌, length, map, unwrap_or, slice_index};
-ghost use Rattle.std.specs.Str.{bytes_eq};
+ghost use Rattle.std.specs.Prelude.{◌≡◌, ℕ, ◌+◌, ◌<◌, ◌≤◌, List, ◌∷◌, length, map, unwrap_or, slice_index, slice_range, true};
 ghost use Rattle.vital_lex.specs.Bytes as spec;
+ghost use Rattle.std.specs.Str.{bytes_eq};
+ghost use Rattle.std.specs.List.{range_with_len};
 ghost use Rattle.vital_lex.specs.Forms.{kind_in, word_kind};
+ghost use Rattle.vital_lex.specs.Kinds.{number};
+ghost use Rattle.vital_lex.specs.ReservedWords.{reserved_words, are_alphabetical};
 
-use crate::bytes::lower_case;
 use crate::kinds::Kind;
 
-static WORDS_IN_A: [(&[u8], Kind); 10] = [
+/// The reserved words in alphabetical order.
+static RESERVED_WORDS: [(&[u8], Kind); 97] = [
     (b"abs", Kind::Abs),
     (b"access", Kind::Access),
     (b"after", Kind::After),
@@ -19,96 +22,60 @@ static WORDS_IN_A: [(&[u8], Kind); 10] = [
     (b"array", Kind::Array),
     (b"assert", Kind::Assert),
     (b"attribute", Kind::Attribute),
-];
-
-static WORDS_IN_B: [(&[u8], Kind); 5] = [
     (b"begin", Kind::Begin),
     (b"block", Kind::Block),
     (b"body", Kind::Body),
     (b"buffer", Kind::Buffer),
     (b"bus", Kind::Bus),
-];
-
-static WORDS_IN_C: [(&[u8], Kind); 4] = [
     (b"case", Kind::Case),
     (b"component", Kind::Component),
     (b"configuration", Kind::Configuration),
     (b"constant", Kind::Constant),
-];
-
-static WORDS_IN_D: [(&[u8], Kind); 2] = [
     (b"disconnect", Kind::Disconnect),
     (b"downto", Kind::Downto),
-];
-
-static WORDS_IN_E: [(&[u8], Kind); 5] = [
     (b"else", Kind::Else),
     (b"elsif", Kind::Elsif),
     (b"end", Kind::End),
     (b"entity", Kind::Entity),
     (b"exit", Kind::Exit),
-];
-
-static WORDS_IN_F: [(&[u8], Kind); 3] = [
     (b"file", Kind::File),
     (b"for", Kind::For),
     (b"function", Kind::Function),
-];
-
-static WORDS_IN_G: [(&[u8], Kind); 4] = [
     (b"generate", Kind::Generate),
     (b"generic", Kind::Generic),
     (b"group", Kind::Group),
     (b"guarded", Kind::Guarded),
-];
-
-static WORDS_IN_I: [(&[u8], Kind); 6] = [
     (b"if", Kind::If),
     (b"impure", Kind::Impure),
     (b"in", Kind::In),
     (b"inertial", Kind::Inertial),
     (b"inout", Kind::Inout),
     (b"is", Kind::Is),
-];
-
-static WORDS_IN_L: [(&[u8], Kind); 5] = [
     (b"label", Kind::Label),
     (b"library", Kind::Library),
     (b"linkage", Kind::Linkage),
     (b"literal", Kind::Literal),
     (b"loop", Kind::Loop),
-];
-
-static WORDS_IN_M: [(&[u8], Kind); 2] = [(b"map", Kind::Map), (b"mod", Kind::Mod)];
-
-static WORDS_IN_N: [(&[u8], Kind); 6] = [
+    (b"map", Kind::Map),
+    (b"mod", Kind::Mod),
     (b"nand", Kind::Nand),
     (b"new", Kind::New),
     (b"next", Kind::Next),
     (b"nor", Kind::Nor),
     (b"not", Kind::Not),
     (b"null", Kind::Null),
-];
-
-static WORDS_IN_O: [(&[u8], Kind); 6] = [
     (b"of", Kind::Of),
     (b"on", Kind::On),
     (b"open", Kind::Open),
     (b"or", Kind::Or),
     (b"others", Kind::Others),
     (b"out", Kind::Out),
-];
-
-static WORDS_IN_P: [(&[u8], Kind); 6] = [
     (b"package", Kind::Package),
     (b"port", Kind::Port),
     (b"postponed", Kind::Postponed),
     (b"procedure", Kind::Procedure),
     (b"process", Kind::Process),
     (b"pure", Kind::Pure),
-];
-
-static WORDS_IN_R: [(&[u8], Kind); 9] = [
     (b"range", Kind::Range),
     (b"record", Kind::Record),
     (b"register", Kind::Register),
@@ -118,9 +85,6 @@ static WORDS_IN_R: [(&[u8], Kind); 9] = [
     (b"return", Kind::Return),
     (b"rol", Kind::Rol),
     (b"ror", Kind::Ror),
-];
-
-static WORDS_IN_S: [(&[u8], Kind); 9] = [
     (b"select", Kind::Select),
     (b"severity", Kind::Severity),
     (b"shared", Kind::Shared),
@@ -130,32 +94,28 @@ static WORDS_IN_S: [(&[u8], Kind); 9] = [
     (b"sra", Kind::Sra),
     (b"srl", Kind::Srl),
     (b"subtype", Kind::Subtype),
-];
-
-static WORDS_IN_T: [(&[u8], Kind); 4] = [
     (b"then", Kind::Then),
     (b"to", Kind::To),
     (b"transport", Kind::Transport),
     (b"type", Kind::Type),
-];
-
-static WORDS_IN_U: [(&[u8], Kind); 4] = [
     (b"unaffected", Kind::Unaffected),
     (b"units", Kind::Units),
     (b"until", Kind::Until),
     (b"use", Kind::Use),
-];
-
-static WORDS_IN_V: [(&[u8], Kind); 1] = [(b"variable", Kind::Variable)];
-
-static WORDS_IN_W: [(&[u8], Kind); 4] = [
+    (b"variable", Kind::Variable),
     (b"wait", Kind::Wait),
     (b"when", Kind::When),
     (b"while", Kind::While),
     (b"with", Kind::With),
+    (b"xnor", Kind::Xnor),
+    (b"xor", Kind::Xor),
 ];
 
-static WORDS_IN_X: [(&[u8], Kind); 2] = [(b"xnor", Kind::Xnor), (b"xor", Kind::Xor)];
+/// How many reserved words stand before those that begin with each letter from `a` to `z`, and how many there are.
+static STARTS: [usize; 27] = [
+    0, 10, 15, 19, 21, 26, 29, 33, 33, 39, 39, 39, 44, 46, 52, 58, 64, 64, 73, 82, 86, 90, 91, 95,
+    97, 97, 97,
+];
 
 /// Whether the word is this one in lower case.
 fn is_in_lower_case(word: &[u8], lower: &[u8]) -> bool
@@ -165,7 +125,7 @@ fn is_in_lower_case(word: &[u8], lower: &[u8]) -> bool
         return false;
     }
     for i in 0..lower.len() {
-        if lower_case(word[i]) != lower[i] {
+        if word[i].to_ascii_lowercase() != lower[i] {
             return false;
         }
     }
@@ -185,32 +145,29 @@ fn kind_in(mut table: &[(&[u8], Kind)], word: &[u8]) -> Kind
     Kind::Identifier
 }
 
+/// Where the reserved words stand that begin with this letter of the alphabet, from 0.
+fn places(letter: usize) -> (usize, usize)
+    requires { letter < 26 }
+    ensures in_order { result.0 ≤ result.1 }
+    ensures within { result.1 ≤ 97 }
+    ensures own { (rest : List ℕ) → kind_in (slice_range reserved_words result.0 result.1) ((97 + letter) ∷ rest) ≡ kind_in reserved_words ((97 + letter) ∷ rest) }
+{
+    (STARTS[letter], STARTS[letter + 1])
+}
+
 /// The kind of a word: that of the reserved word which it is in lower case, or that of an identifier.
 pub fn word_kind(word: &[u8]) -> Kind
-    requires { 0 < length word.now }
+    requires some { 0 < length word.now }
+    requires letter { spec.is_letter (slice_index word.now 0) ≡ true }
     ensures { result ≡ word_kind word.now }
 {
-    match lower_case(word[0]) {
-        b'a' => kind_in(&WORDS_IN_A, word),
-        b'b' => kind_in(&WORDS_IN_B, word),
-        b'c' => kind_in(&WORDS_IN_C, word),
-        b'd' => kind_in(&WORDS_IN_D, word),
-        b'e' => kind_in(&WORDS_IN_E, word),
-        b'f' => kind_in(&WORDS_IN_F, word),
-        b'g' => kind_in(&WORDS_IN_G, word),
-        b'i' => kind_in(&WORDS_IN_I, word),
-        b'l' => kind_in(&WORDS_IN_L, word),
-        b'm' => kind_in(&WORDS_IN_M, word),
-        b'n' => kind_in(&WORDS_IN_N, word),
-        b'o' => kind_in(&WORDS_IN_O, word),
-        b'p' => kind_in(&WORDS_IN_P, word),
-        b'r' => kind_in(&WORDS_IN_R, word),
-        b's' => kind_in(&WORDS_IN_S, word),
-        b't' => kind_in(&WORDS_IN_T, word),
-        b'u' => kind_in(&WORDS_IN_U, word),
-        b'v' => kind_in(&WORDS_IN_V, word),
-        b'w' => kind_in(&WORDS_IN_W, word),
-        b'x' => kind_in(&WORDS_IN_X, word),
-        _ => Kind::Identifier,
-    }
+    let letter = word[0].to_ascii_lowercase() - b'a';
+    let (start, end) = places(letter as usize);
+    kind_in(&RESERVED_WORDS[start..end], word)
 }
+
+/// The reserved words stand in alphabetical order, each once, and their kinds have the numbers from 28 to 124 in that order.
+pub fn reserved_words_in_order()
+    ensures sorted { are_alphabetical (map (λ entry. entry.0) reserved_words) ≡ true }
+    ensures numbers { map (λ entry. number entry.1) reserved_words ≡ range_with_len 28 97 }
+{}
