@@ -107,18 +107,15 @@ impl Lexer<'_> {
         self.at = run_end::<Blanks>(self.text, self.at);
     }
 
-    /// Takes the blanks at `at`, and the comment or the lexeme after them.
+    /// Takes the comment or the lexeme at `at`, where no blank stands.
     fn advance(&mut self) -> Result<(), LexError>
         requires reading { IsReading self.old }
         requires inside { self.old.at < length self.old.text.now }
+        requires no_blank { spec.is_blank (slice_index self.old.text.now self.old.at) ≡ false }
         ensures same { (self.new.text.now ≡ self.old.text.now) × (self.new.room ≡ self.old.room) }
         ensures ok { OnOk result (IsReading self.new × (self.old.at < self.new.at)) }
         ensures refused { (fault : TextFault) → result ≡ Err (LexError.Text fault) → IsRefused self.old.text.now self.old.room fault }
     {
-        self.pass_blanks();
-        if self.at == self.text.len() {
-            return Ok(());
-        }
         if let Some(end) = comment_end(self.text, self.at) {
             self.at = end;
             return Ok(());
@@ -156,8 +153,10 @@ pub fn lex_vhdl(alloc: Global, text: &[u8], room: u32) -> Result<Tokens, LexErro
         before: None,
         nesting: 0,
     };
+    lexer.pass_blanks();
     while lexer.at < text.len() {
         lexer.advance()?;
+        lexer.pass_blanks();
     }
     Ok(Tokens::from_vec(lexer.tokens))
 }

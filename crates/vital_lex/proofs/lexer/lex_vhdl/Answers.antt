@@ -9,21 +9,25 @@ use Rattle.vital_lex.proofs.Refusals.{fault_place, Refuses, handed_on, answer_re
 use Rattle.vital_lex.proofs.lexer.lex_vhdl.Goals as goal
 use Rattle.vital_lex.proofs.lexer.lex_vhdl.Goals.{After-drop-lexer, After-from_vec}
 
+pub pass_blanks-requires : goal.pass_blanks-requires
+pass_blanks-requires c = record {
+  size = c.requires;
+  inside = omega arith;
+  lexemes = [];
+  read = record {
+    reaches = record { row = empty; within = within_none c.args.room };
+    tokens_are = c.new.ensures.items;
+    before_is = refl;
+    nesting_is = sym nesting-none;
+  };
+}
+
 pub loop-lexer-init : goal.loop-lexer-init
 loop-lexer-init c = record {
-  text_is = refl;
-  room_is = refl;
-  reading = record {
-    size = c.requires;
-    inside = omega arith;
-    lexemes = [];
-    read = record {
-      reaches = record { row = empty; within = within_none c.args.room };
-      tokens_are = c.new.ensures.items;
-      before_is = refl;
-      nesting_is = sym nesting-none;
-    };
-  };
+  text_is = c.pass_blanks.ensures.same.0;
+  room_is = c.pass_blanks.ensures.same.1;
+  reading = c.pass_blanks.ensures.reading;
+  no_blank = c.pass_blanks.ensures.stops;
 }
 
 pub advance-requires-clause-reading : goal.advance-requires-clause-reading
@@ -33,11 +37,14 @@ pub advance-requires-clause-inside : goal.advance-requires-clause-inside
 advance-requires-clause-inside c = omega (arith, ap length c.loop-lexer.invariant.text_is)
 
 pub loop-lexer-preserved : goal.loop-lexer-preserved
-loop-lexer-preserved c = record {
-  text_is = c.in_ok-advance.ensures.same.0 ∙ c.loop-lexer.invariant.text_is;
-  room_is = c.in_ok-advance.ensures.same.1 ∙ c.loop-lexer.invariant.room_is;
-  reading = c.in_ok-advance.ensures.ok.0;
-}
+loop-lexer-preserved c =
+    let after = c.pass_blanks-in-loop-lexer.ensures in
+    record {
+      text_is = after.same.0 ∙ c.in_ok-advance.ensures.same.0 ∙ c.loop-lexer.invariant.text_is;
+      room_is = after.same.1 ∙ c.in_ok-advance.ensures.same.1 ∙ c.loop-lexer.invariant.room_is;
+      reading = after.reading;
+      no_blank = after.stops;
+    }
 
 -- the lexer's refusal is handed on
 refuses : (c : After-drop-lexer) → Refuses c.args.text.now c.args.room c.in_err-advance.field-0.0

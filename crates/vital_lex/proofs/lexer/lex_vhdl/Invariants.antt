@@ -1,4 +1,5 @@
-use Rattle.std.proofs.Common.{◌≡◌, ◌-◌, length}
+use Rattle.std.proofs.Common.{◌≡◌, ◌-◌, ◌<◌, false, length, get_or}
+use Rattle.vital_lex.specs.Bytes.{is_blank}
 use Rattle.vital_lex.specs.Reading.{IsReading}
 use Rattle.vital_lex.proofs.lexer.lex_vhdl.Given as goal
 
@@ -7,6 +8,7 @@ invariant-loop-lexer l = record {
   text_is : l.lexer.text.now ≡ l.text;
   room_is : l.lexer.room ≡ l.room;
   reading : IsReading l.lexer;
+  no_blank : l.lexer.at < length l.lexer.text.now → is_blank (get_or l.lexer.text.now l.lexer.at 0) ≡ false;
 }
 
 abbrev pub decreases-loop-lexer : goal.decreases-loop-lexer
