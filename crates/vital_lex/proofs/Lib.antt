@@ -7,6 +7,7 @@ pub mod Quoted
 pub mod Ranges
 pub mod Readings
 pub mod Refusals
+pub mod Rising
 pub mod Separators
 pub mod Steps
 pub mod Tables

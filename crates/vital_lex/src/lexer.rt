@@ -1,6 +1,6 @@
 //! Reading a whole text.
 
-ghost use Rattle.std.specs.Prelude.{◌≡◌, ◌<◌, ◌≤◌, ℕ, false, List, length, slice_index, Result, OnOk, IfOk};
+ghost use Rattle.std.specs.Prelude.{AllPairs, ◌≡◌, ◌<◌, ◌≤◌, ℕ, false, List, length, slice_index, Result, OnOk, IfOk};
 ghost use Rattle.vital_lex.specs.Bytes as spec;
 ghost use Rattle.vital_lex.specs.Forms.{is_separator};
 ghost use Rattle.vital_lex.specs.Nesting.{nesting_after};
@@ -165,4 +165,9 @@ pub fn lex_vhdl(alloc: Global, text: &[u8], room: u32) -> Result<Tokens, LexErro
 pub fn one_outcome()
     ensures { (text : List ℕ) (room : ℕ) → (outcome : Result (List Token) TextFault) × IsOutcome text room outcome
         × ((other : Result (List Token) TextFault) → IsOutcome text room other → other ≡ outcome) }
+{}
+
+/// The tokens of a text stand in the order in which they start: a law, called for its clause.
+pub fn tokens_rise()
+    ensures { (text : List ℕ) (tokens : List Token) → Lexes text tokens → AllPairs (λ s t. s.start ≤ t.start) tokens }
 {}

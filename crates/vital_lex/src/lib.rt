@@ -14,7 +14,7 @@ mod words;
 
 pub use faults::{LexError, TextFault, Why};
 pub use kinds::Kind;
-pub use lexer::{lex_vhdl, one_outcome};
+pub use lexer::{lex_vhdl, one_outcome, tokens_rise};
 pub use text_position::{TextPosition, line_column};
 pub use token_list::{Token, Tokens};
 pub use words::reserved_words_in_order;
