@@ -1,14 +1,15 @@
 pub mod Deriving
 pub mod Progress
 pub mod Parsing
-pub mod Choosing
 pub mod Complete
 pub mod Sound
+pub mod Bits
 pub mod Turns
 pub mod Listings
 pub mod Passing
 pub mod Made
-pub mod Filling
+pub mod Known
+pub mod Entries
 pub mod ByTables
 pub mod Leads
 pub mod Deciding

@@ -1,81 +1,90 @@
--- Turns that mark rules, one after another.
-use Rattle.std.proofs.Common.{◌≡◌, ℕ, zero, suc, ◌<◌, Bool, true, false, not, ◌||◌, List, [], ◌∷◌, length, get_or, set, refl, sym, ap, ◌∙◌, subst, arith, inl, inr, ◌⊎◌}
-use Rattle.std.proofs.lemmas.List.{length-set, set-get_or}
-use Rattle.vital_ll.specs.Marks.{marked, unmarked, IsTurn}
+-- Turns that add bits to masks.
+use Rattle.std.proofs.Common.{◌≡◌, ℕ, zero, suc, ◌^◌, ◌<◌, ◌≤◌, Bool, true, false, ◌||◌, List, [], ◌∷◌, length, get_or, set, refl, sym, ap, ◌∙◌, subst, arith, inl, inr, ◌⊎◌}
+use Rattle.std.specs.Int.Bits.{bit_or}
+use Rattle.std.proofs.lemmas.Bool.{cases_eq, or_cases, or_left, or_right}
+use Rattle.std.proofs.lemmas.List.{length-set, set-get_or, get_or-set_same, get_or-set_other}
+use Rattle.std.proofs.lemmas.Nat.{le_or_l}
+use Rattle.vital_ll.specs.Marks.{has, marked, unmarked, IsAdded, IsTurn}
+use Rattle.vital_ll.proofs.Bits.{has-or}
 
--- nothing was marked
-pub turn_quiet : (Reason : ℕ → Type 0) (Settled : List Bool → Type 0) (marks : List Bool) → Settled marks → IsTurn Reason Settled marks marks false
-turn_quiet Reason Settled marks settled = record {
+-- nothing was added
+pub turn_quiet : (Reason : ℕ → ℕ → Type 0) (Settled : List ℕ → Type 0) (masks : List ℕ) → Settled masks → IsTurn Reason Settled masks masks false
+turn_quiet Reason Settled masks settled = record {
   len = refl;
   sound = λ s. s;
-  kept = λ r h. h;
+  kept = λ i r h. h;
   quiet = λ _. (refl, settled);
   fewer = λ (e : false ≡ true). absurd (cc);
 }
 
-unmarked-set : (marks : List Bool) (r : ℕ) → r < length marks → get_or marks r false ≡ false → unmarked (set marks r true) < unmarked marks
-unmarked-set [] r h e = absurd (omega arith)
-unmarked-set (true ∷ marks) zero h e = absurd (cc)
-unmarked-set (false ∷ marks) zero h e = omega arith
-unmarked-set (true ∷ marks) (suc r) h e = unmarked-set marks r (omega arith) e
-unmarked-set (false ∷ marks) (suc r) h e = let ih : unmarked (set marks r true) < unmarked marks = unmarked-set marks r (omega arith) e in omega arith
+unmarked-set : (masks : List ℕ) (r mask : ℕ) → r < length masks → get_or masks r 0 < mask → mask < 2 ^ 128 → unmarked (set masks r mask) < unmarked masks
+unmarked-set [] r mask h more low = absurd (omega arith)
+unmarked-set (m ∷ masks) zero mask h more low = omega arith
+unmarked-set (m ∷ masks) (suc r) mask h more low = let ih : unmarked (set masks r mask) < unmarked masks = unmarked-set masks r mask (omega arith) more low in omega arith
 
--- a mark is kept where another is added
-mark_kept : (marks : List Bool) (r q : ℕ) → get_or marks q false ≡ true → get_or (set marks r true) q false ≡ true
-mark_kept [] r q e = e
-mark_kept (b ∷ marks) zero zero e = refl
-mark_kept (b ∷ marks) zero (suc q) e = e
-mark_kept (b ∷ marks) (suc r) zero e = e
-mark_kept (b ∷ marks) (suc r) (suc q) e = mark_kept marks r q e
+-- what is marked after bits were added to a rule's mask
+mark_cases : (masks : List ℕ) (r bits i q : ℕ) → r < length masks → marked (set masks r (bit_or (get_or masks r 0) bits)) i q ≡ true → (marked masks i q ≡ true) ⊎ ((q ≡ r) × (has bits i ≡ true))
+mark_cases masks r bits i q inside h =
+    elim (cases_eq q r) [
+      | inl same ↦
+          let at : has (bit_or (get_or masks r 0) bits) i ≡ true = ap (λ (x : ℕ). has x i) (sym (get_or-set_same masks r (bit_or (get_or masks r 0) bits) 0 inside)) ∙ ap (λ (x : ℕ). marked (set masks r (bit_or (get_or masks r 0) bits)) i x) (sym same) ∙ h in
+          elim (or_cases (has (get_or masks r 0) i) (has bits i) (sym (has-or (get_or masks r 0) bits i) ∙ at)) [
+            | inl old ↦ inl (ap (λ (x : ℕ). marked masks i x) same ∙ old)
+            | inr new ↦ inr (same, new)
+          ]
+      | inr other ↦ inl (ap (λ (x : ℕ). has x i) (sym (get_or-set_other masks r q (bit_or (get_or masks r 0) bits) 0 other)) ∙ h)
+    ]
 
-mark_cases : (marks : List Bool) (r q : ℕ) → get_or (set marks r true) q false ≡ true → (get_or marks q false ≡ true) ⊎ (q ≡ r)
-mark_cases [] r q e = inl e
-mark_cases (b ∷ marks) zero zero e = inr refl
-mark_cases (b ∷ marks) zero (suc q) e = inl e
-mark_cases (b ∷ marks) (suc r) zero e = inl e
-mark_cases (b ∷ marks) (suc r) (suc q) e = elim (mark_cases marks r q e) [ inl f ↦ inl f | inr f ↦ inr (ap suc f) ]
+-- a mark is kept where bits are added
+mark_kept : (masks : List ℕ) (r bits i q : ℕ) → r < length masks → marked masks i q ≡ true → marked (set masks r (bit_or (get_or masks r 0) bits)) i q ≡ true
+mark_kept masks r bits i q inside h =
+    elim (cases_eq q r) [
+      | inl same ↦
+          ap (λ (x : ℕ). marked (set masks r (bit_or (get_or masks r 0) bits)) i x) same ∙ ap (λ (x : ℕ). has x i) (get_or-set_same masks r (bit_or (get_or masks r 0) bits) 0 inside)
+          ∙ has-or (get_or masks r 0) bits i ∙ or_left (has (get_or masks r 0) i) (has bits i) (ap (λ (x : ℕ). marked masks i x) (sym same) ∙ h)
+      | inr other ↦ ap (λ (x : ℕ). has x i) (get_or-set_other masks r q (bit_or (get_or masks r 0) bits) 0 other) ∙ h
+    ]
 
--- one rule was marked
-pub turn_mark : (Reason : ℕ → Type 0) (Settled : List Bool → Type 0) (marks : List Bool) (r : ℕ) → r < length marks → get_or marks r false ≡ false →
-    (((q : ℕ) → marked marks q ≡ true → Reason q) → Reason r) → IsTurn Reason Settled marks (set marks r true) true
-turn_mark Reason Settled marks r inside e reason = record {
-  len = length-set marks r true;
-  sound = λ s q h. elim (mark_cases marks r q h) [ inl f ↦ s q f | inr f ↦ subst Reason (sym f) (reason s) ];
-  kept = λ q h. mark_kept marks r q h;
-  quiet = λ (x : true ≡ false). absurd (cc);
-  fewer = λ _. unmarked-set marks r inside e;
-}
+-- bits were added that are in the mask already, or each for a reason
+pub turn_add : (Reason : ℕ → ℕ → Type 0) (Settled : List ℕ → Type 0) (old new : List ℕ) (r bits : ℕ) (changed : Bool) → r < length old → IsAdded old new r bits changed →
+    (((i q : ℕ) → i < 128 → marked old i q ≡ true → Reason i q) → (i : ℕ) → i < 128 → has bits i ≡ true → Reason i r) →
+    (((i : ℕ) → i < 128 → has bits i ≡ true → marked old i r ≡ true) → Settled old) → IsTurn Reason Settled old new changed
+turn_add Reason Settled old new r bits changed inside added reason settled =
+    subst (λ (l : List ℕ). IsTurn Reason Settled old l changed) (sym added.masks) (go changed added.same added.other)
+  where
+    go : (b : Bool) → (b ≡ false → bit_or (get_or old r 0) bits ≡ get_or old r 0) → (b ≡ true → bit_or (get_or old r 0) bits ≡ get_or old r 0 → ⊥) →
+        IsTurn Reason Settled old (set old r (bit_or (get_or old r 0) bits)) b
+    go false same other =
+        let e : bit_or (get_or old r 0) bits ≡ get_or old r 0 = same refl in
+        let same_masks : set old r (bit_or (get_or old r 0) bits) ≡ old = ap (λ (x : ℕ). set old r x) e ∙ set-get_or old r 0 in
+        subst (λ (l : List ℕ). IsTurn Reason Settled old l false) (sym same_masks)
+        (turn_quiet Reason Settled old (settled (λ i low h. ap (λ (x : ℕ). has x i) (sym e) ∙ has-or (get_or old r 0) bits i ∙ or_right (has (get_or old r 0) i) (has bits i) h)))
+    go true same other = record {
+      len = length-set old r (bit_or (get_or old r 0) bits);
+      sound = λ s i q low h. elim (mark_cases old r bits i q inside h) [ inl f ↦ s i q low f | inr f ↦ subst (λ (x : ℕ). Reason i x) (sym f.0) (reason s i low f.1) ];
+      kept = λ i q h. mark_kept old r bits i q inside h;
+      quiet = λ (x : true ≡ false). absurd (cc);
+      fewer = λ _. unmarked-set old r (bit_or (get_or old r 0) bits) inside (let least : get_or old r 0 ≤ bit_or (get_or old r 0) bits = le_or_l (get_or old r 0) bits in let differ : bit_or (get_or old r 0) bits ≡ get_or old r 0 → ⊥ = other refl in omega arith) added.fits;
+    }
 
 or_false : (a b : Bool) → (a || b) ≡ false → (a ≡ false) × (b ≡ false)
 or_false true b e = absurd (cc)
 or_false false b e = (refl, e)
 
-later_fewer : (a b : Bool) (old mid new : List Bool) → (a ≡ true → unmarked mid < unmarked old) → (a ≡ false → mid ≡ old) → (b ≡ true → unmarked new < unmarked mid) → (b ≡ false → new ≡ mid) →
+later_fewer : (a b : Bool) (old mid new : List ℕ) → (a ≡ true → unmarked mid < unmarked old) → (a ≡ false → mid ≡ old) → (b ≡ true → unmarked new < unmarked mid) → (b ≡ false → new ≡ mid) →
     (a || b) ≡ true → unmarked new < unmarked old
 later_fewer true true old mid new f g h i e = let x : unmarked mid < unmarked old = f refl in let y : unmarked new < unmarked mid = h refl in omega arith
-later_fewer true false old mid new f g h i e = subst (λ (l : List Bool). unmarked l < unmarked old) (sym (i refl)) (f refl)
-later_fewer false true old mid new f g h i e = subst (λ (l : List Bool). unmarked new < unmarked l) (g refl) (h refl)
+later_fewer true false old mid new f g h i e = subst (λ (l : List ℕ). unmarked l < unmarked old) (sym (i refl)) (f refl)
+later_fewer false true old mid new f g h i e = subst (λ (l : List ℕ). unmarked new < unmarked l) (g refl) (h refl)
 later_fewer false false old mid new f g h i e = absurd (cc)
 
 -- one turn after another
-pub turn_next : (Reason : ℕ → Type 0) (First Second Both : List Bool → Type 0) (old mid new : List Bool) (a b : Bool) → ((m : List Bool) → First m → Second m → Both m) →
+pub turn_next : (Reason : ℕ → ℕ → Type 0) (First Second Both : List ℕ → Type 0) (old mid new : List ℕ) (a b : Bool) → ((m : List ℕ) → First m → Second m → Both m) →
     IsTurn Reason First old mid a → IsTurn Reason Second mid new b → IsTurn Reason Both old new (a || b)
 turn_next Reason First Second Both old mid new a b join x y = record {
   len = y.len ∙ x.len;
   sound = λ s. y.sound (x.sound s);
-  kept = λ r h. y.kept r (x.kept r h);
+  kept = λ i r h. y.kept i r (x.kept i r h);
   quiet = λ e. let p = or_false a b e in let q = x.quiet p.0 in let s = y.quiet p.1 in (s.0 ∙ q.0, join old q.1 (subst Second q.0 s.1));
   fewer = later_fewer a b old mid new x.fewer (λ e. (x.quiet e).0) y.fewer (λ e. (y.quiet e).0);
 }
-
--- a rule is marked, which may be nothing new
-pub turn_add : (Reason : ℕ → Type 0) (Settled : List Bool → Type 0) (old new : List Bool) (r : ℕ) (changed : Bool) → r < length old → new ≡ set old r true → changed ≡ not (get_or old r false) →
-    (((q : ℕ) → marked old q ≡ true → Reason q) → Reason r) → (get_or old r false ≡ true → Settled old) → IsTurn Reason Settled old new changed
-turn_add Reason Settled old new r changed inside new_is changed_is reason settled =
-    subst (λ (l : List Bool). IsTurn Reason Settled old l changed) (sym new_is) (subst (λ (b : Bool). IsTurn Reason Settled old (set old r true) b) (sym changed_is) (go (get_or old r false) refl))
-  where
-    go : (b : Bool) → get_or old r false ≡ b → IsTurn Reason Settled old (set old r true) (not b)
-    go true e =
-        let same : set old r true ≡ old = ap (λ (b : Bool). set old r b) (sym e) ∙ set-get_or old r false in
-        subst (λ (l : List Bool). IsTurn Reason Settled old l false) (sym same) (turn_quiet Reason Settled old (settled e))
-    go false e = turn_mark Reason Settled old r inside e reason

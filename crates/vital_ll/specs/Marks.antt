@@ -1,5 +1,8 @@
--- Marks on the rules of a grammar, from which its choice sets are found: one list of marks for each token.
-use Rattle.std.specs.Prelude.{◌≡◌, ℕ, ◌+◌, ◌<◌, Bool, true, false, ◌&&◌, ◌||◌, ◌==◌, List, [], ◌∷◌, ◌++◌, length, Some, slice_index_or}
+-- Marks on the rules of a grammar, from which its choice sets are found. Those of 128 tokens are found at once: each rule has a
+-- mask, which has a bit for each of these tokens.
+use Rattle.std.specs.Prelude.{◌≡◌, ℕ, ◌+◌, ◌-◌, ◌^◌, ◌<◌, Bool, true, false, ◌&&◌, ◌||◌, ◌==◌, List, [], ◌∷◌, ◌++◌, length, Some, slice_index, slice_set}
+use Rattle.std.specs.Int.{bit_at}
+use Rattle.std.specs.Int.Bits.{bit_or}
 use Rattle.vital_ll.specs.declared.grammar.Sym.{Sym}
 use Rattle.vital_ll.specs.declared.grammar.Sym.TheVariants.{Token, Rule}
 use Rattle.vital_ll.specs.Grammar.{Grammar, alternative_of}
@@ -9,9 +12,13 @@ use Rattle.vital_ll.specs.Choice.{CanBegin, CanBeEmpty, IsForm, Follows}
 abbrev pub Marks : Type 0
 Marks = ℕ → Bool
 
--- the marks that a list holds
-abbrev pub marked : List Bool → Marks
-marked marks r = slice_index_or marks r false
+-- whether a mask has a bit
+abbrev pub has : ℕ → ℕ → Bool
+has mask i = bit_at mask i == 1
+
+-- the marks that bit i of each rule's mask says
+abbrev pub marked : List ℕ → ℕ → Marks
+marked masks i r = has (slice_index masks r) i
 
 -- whether each symbol is a marked rule
 abbrev pub empties : Marks → List Sym → Bool
@@ -64,23 +71,29 @@ ReachSound g reached = (r : ℕ) → reached r ≡ true → IsReached g r
 abbrev pub FollowSound : Grammar → Marks → ℕ → Type 0
 FollowSound g follow t = (r : ℕ) → follow r ≡ true → Follows g r t
 
--- how many rules are not marked
-abbrev pub unmarked : List Bool → ℕ
-unmarked [] = 0
-unmarked (true ∷ marks) = unmarked marks
-unmarked (false ∷ marks) = unmarked marks + 1
+-- these bits were added to the mask of a rule, which has 128 of them; `changed` says whether one of them is new
+pub record IsAdded (old new : List ℕ) (rule bits : ℕ) (changed : Bool) : Type 0 where
+  pub masks : new ≡ slice_set old rule (bit_or (slice_index old rule) bits)
+  pub fits : bit_or (slice_index old rule) bits < 2 ^ 128
+  pub same : changed ≡ false → bit_or (slice_index old rule) bits ≡ slice_index old rule
+  pub other : changed ≡ true → bit_or (slice_index old rule) bits ≡ slice_index old rule → ⊥
 
--- Marks were added, each with a reason where those before had theirs; where none was, there was nothing to add.
-pub record IsTurn (Reason : ℕ → Type 0) (Settled : List Bool → Type 0) (old new : List Bool) (changed : Bool) : Type 0 where
+-- how far the masks are from having all bits
+abbrev pub unmarked : List ℕ → ℕ
+unmarked [] = 0
+unmarked (mask ∷ masks) = (2 ^ 128 - mask) + unmarked masks
+
+-- Marks were added, each bit with a reason where those before had theirs; where none was, there was nothing to add.
+pub record IsTurn (Reason : ℕ → ℕ → Type 0) (Settled : List ℕ → Type 0) (old new : List ℕ) (changed : Bool) : Type 0 where
   pub len : length new ≡ length old
-  pub sound : ((r : ℕ) → marked old r ≡ true → Reason r) → (r : ℕ) → marked new r ≡ true → Reason r
-  pub kept : (r : ℕ) → marked old r ≡ true → marked new r ≡ true
+  pub sound : ((i r : ℕ) → i < 128 → marked old i r ≡ true → Reason i r) → (i r : ℕ) → i < 128 → marked new i r ≡ true → Reason i r
+  pub kept : (i r : ℕ) → marked old i r ≡ true → marked new i r ≡ true
   pub quiet : changed ≡ false → (new ≡ old) × Settled old
   pub fewer : changed ≡ true → unmarked new < unmarked old
 
 -- Marks were added until there was nothing to add.
-pub record IsSaturated (Reason : ℕ → Type 0) (Settled : List Bool → Type 0) (old new : List Bool) : Type 0 where
+pub record IsSaturated (Reason : ℕ → ℕ → Type 0) (Settled : List ℕ → Type 0) (old new : List ℕ) : Type 0 where
   pub len : length new ≡ length old
-  pub sound : ((r : ℕ) → marked old r ≡ true → Reason r) → (r : ℕ) → marked new r ≡ true → Reason r
-  pub kept : (r : ℕ) → marked old r ≡ true → marked new r ≡ true
+  pub sound : ((i r : ℕ) → i < 128 → marked old i r ≡ true → Reason i r) → (i r : ℕ) → i < 128 → marked new i r ≡ true → Reason i r
+  pub kept : (i r : ℕ) → marked old i r ≡ true → marked new i r ≡ true
   pub settled : Settled new

@@ -1,5 +1,5 @@
 -- Tables of masks, by which a grammar is seen to be predictive.
-use Rattle.std.specs.Prelude.{ℕ, ◌+◌, ◌^◌, Bool, true, false, not, ◌&&◌, ◌||◌, ◌==◌, if◌then◌else◌, List, [], ◌∷◌, slice_index_or}
+use Rattle.std.specs.Prelude.{ℕ, zero, suc, ◌+◌, ◌^◌, Bool, true, false, not, ◌&&◌, ◌||◌, ◌==◌, if◌then◌else◌, List, [], ◌∷◌, slice_index_or}
 use Rattle.std.specs.Int.Bits.{bit_and, bit_or}
 use Rattle.vital_ll.specs.declared.grammar.Sym.{Sym}
 use Rattle.vital_ll.specs.declared.grammar.Sym.TheVariants.{Token, Rule}
@@ -23,6 +23,11 @@ follow_at table r = (slice_index_or table r (false, 0, 0)).2
 -- a token's bit in a mask: bit 0 is the end mark's, and bit t + 1 is that of token t
 abbrev pub bit_of : ℕ → ℕ
 bit_of t = if t == end_mark then 0 else t + 1
+
+-- the token of a bit
+abbrev pub token_at : ℕ → ℕ
+token_at zero = end_mark
+token_at (suc t) = t
 
 -- each bit of the first mask is set in the second
 abbrev pub is_within : ℕ → ℕ → Bool

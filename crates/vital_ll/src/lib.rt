@@ -3,7 +3,7 @@
 #![tactic(auto)]
 
 mod beginnings;
-mod column;
+mod blocks;
 mod derivation;
 mod grammar;
 mod laws;
@@ -12,8 +12,8 @@ mod marks;
 mod passes;
 mod prediction;
 mod reading;
+mod rows;
 mod sets;
-mod token;
 mod width;
 
 pub use derivation::{Step, Tree};

@@ -1,10 +1,11 @@
-ghost use Rattle.std.specs.Prelude.{◌≡◌, ℕ, ◌<◌, ◌∷◌, [], List, length, not, true, false, slice_set, slice_index_or, IfSome, IfNone};
+ghost use Rattle.std.specs.Prelude.{◌≡◌, ℕ, ◌+◌, ◌<◌, ◌∷◌, [], List, length, IfSome, IfNone};
 ghost use Rattle.vital_ll.specs.declared.grammar.Sym.{Sym};
 ghost use Rattle.vital_ll.specs.declared.grammar.Sym.TheVariants.{Rule};
 ghost use Rattle.vital_ll.specs.Choice.{CanBegin, CanBeEmpty, Follows, IsWellFormed};
-ghost use Rattle.vital_ll.specs.Marks.{marked, IsReached, EmptySound, FirstSound, ReachSound};
+ghost use Rattle.vital_ll.specs.Marks.{marked, IsAdded, IsReached, EmptySound};
+ghost use Rattle.vital_ll.specs.Masks.{token_at};
 ghost use Rattle.vital_ll.specs.Listing.{ListsSteps, ListsPlaces, IsPlaceOf};
-ghost use Rattle.vital_ll.specs.Passes.{At, EmptyAt, FirstAt, IsNamedAt, ReachAt, FollowAt, FollowsFrom};
+ghost use Rattle.vital_ll.specs.Passes.{At, EachBit, EmptyAt, FirstAt, IsNamedAt, ReachAt, FollowAt, FollowsFrom};
 
 use crate::beginnings::{can_be_empty, can_begin};
 use crate::derivation::Step;
@@ -12,15 +13,15 @@ use crate::grammar::{RuleList, Sym};
 use crate::listing::Place;
 use crate::marks::Pass;
 
-/// Marks a rule, and says whether that is anything new.
-fn add(marks: &mut [bool], rule: usize) -> bool
-    requires { rule < length marks.old }
-    ensures marks { marks.new ≡ slice_set marks.old rule true }
-    ensures new { result ≡ not (slice_index_or marks.old rule false) }
+/// Adds bits to the mask of a rule, and says whether one of them is new.
+fn add(masks: &mut [u128], rule: usize, bits: u128) -> bool
+    requires { rule < length masks.old }
+    ensures { IsAdded masks.old masks.new rule bits result }
 {
-    let new = !marks[rule];
-    marks[rule] = true;
-    new
+    let old = masks[rule];
+    let new = old | bits;
+    masks[rule] = new;
+    new != old
 }
 
 /// Marks each rule that can be empty.
@@ -37,54 +38,51 @@ impl Pass for EmptyPass<'_> {
 
     ghost items = { λ s. length s.steps.now };
 
-    ghost reason = { λ s r. CanBeEmpty s.rules.now (Rule r ∷ []) };
+    ghost reason = { λ s _ r. CanBeEmpty s.rules.now (Rule r ∷ []) };
 
-    ghost settled = { λ s marks k. At s.steps.now k (EmptyAt s.rules.now marks) };
+    ghost settled = { λ s masks k. At s.steps.now k (λ step. EachBit (λ i. EmptyAt s.rules.now (marked masks i) step)) };
 
     fn len(&self) -> usize {
         self.steps.len()
     }
 
-    fn mark(&self, item: usize, marks: &mut [bool]) -> bool {
+    fn mark(&self, item: usize, masks: &mut [u128]) -> bool {
         let step = self.steps[item];
-        if !can_be_empty(self.rules.symbols(step.rule, step.alternative), marks) {
-            return false;
-        }
-        add(marks, usize::from(step.rule))
+        let symbols = self.rules.symbols(step.rule, step.alternative);
+        let bits = can_be_empty(symbols, masks);
+        add(masks, usize::from(step.rule), bits)
     }
 }
 
-/// Marks each rule that can begin with the token.
+/// Marks each rule with the tokens that it can begin with, of those whose bits begin at bit `base`.
 #[derive(Drop)]
 pub(crate) struct FirstPass<'a> {
     pub(crate) rules: &'a RuleList,
     pub(crate) steps: &'a [Step],
-    pub(crate) token: u32,
-    pub(crate) nullable: &'a [bool],
+    pub(crate) base: usize,
+    pub(crate) nullable: &'a [u128],
 }
 
 impl Pass for FirstPass<'_> {
-    ghost valid = { λ s. IsWellFormed s.rules.now × ListsSteps s.rules.now s.steps.now × (length s.nullable.now ≡ length s.rules.now) × EmptySound s.rules.now (marked s.nullable.now) };
+    ghost valid = { λ s. IsWellFormed s.rules.now × ListsSteps s.rules.now s.steps.now × (length s.nullable.now ≡ length s.rules.now) × EachBit (λ i. EmptySound s.rules.now (marked s.nullable.now i)) };
 
     ghost rules = { λ s. length s.rules.now };
 
     ghost items = { λ s. length s.steps.now };
 
-    ghost reason = { λ s r. CanBegin s.rules.now (Rule r ∷ []) s.token };
+    ghost reason = { λ s i r. CanBegin s.rules.now (Rule r ∷ []) (token_at (s.base + i)) };
 
-    ghost settled = { λ s marks k. At s.steps.now k (FirstAt s.rules.now (marked s.nullable.now) s.token marks) };
+    ghost settled = { λ s masks k. At s.steps.now k (λ step. EachBit (λ i. FirstAt s.rules.now (marked s.nullable.now i) (token_at (s.base + i)) (marked masks i) step)) };
 
     fn len(&self) -> usize {
         self.steps.len()
     }
 
-    fn mark(&self, item: usize, marks: &mut [bool]) -> bool {
+    fn mark(&self, item: usize, masks: &mut [u128]) -> bool {
         let step = self.steps[item];
         let symbols = self.rules.symbols(step.rule, step.alternative);
-        if !can_begin(symbols, self.token, false, self.nullable, marks) {
-            return false;
-        }
-        add(marks, usize::from(step.rule))
+        let bits = can_begin(symbols, self.base, 0, self.nullable, masks);
+        add(masks, usize::from(step.rule), bits)
     }
 }
 
@@ -116,65 +114,60 @@ impl Pass for ReachPass<'_> {
 
     ghost items = { λ s. length s.places.now };
 
-    ghost reason = { λ s r. IsReached s.rules.now r };
+    ghost reason = { λ s _ r. IsReached s.rules.now r };
 
-    ghost settled = { λ s marks k. At s.places.now k (ReachAt s.rules.now marks) };
+    ghost settled = { λ s masks k. At s.places.now k (λ place. EachBit (λ i. ReachAt s.rules.now (marked masks i) place)) };
 
     fn len(&self) -> usize {
         self.places.len()
     }
 
-    fn mark(&self, item: usize, marks: &mut [bool]) -> bool {
+    fn mark(&self, item: usize, masks: &mut [u128]) -> bool {
         let place = self.places[item];
-        if !marks[usize::from(place.step.rule)] {
-            return false;
-        }
+        let bits = masks[usize::from(place.step.rule)];
         match named_at(self.rules, place) {
             None => false,
-            Some((named, _)) => add(marks, usize::from(named)),
+            Some((named, _)) => add(masks, usize::from(named), bits),
         }
     }
 }
 
-/// Marks each rule that the token follows in some sentence.
+/// Marks each rule with the tokens that follow it in some sentence.
 #[derive(Drop)]
 pub(crate) struct FollowPass<'a> {
     pub(crate) rules: &'a RuleList,
     pub(crate) steps: &'a [Step],
     pub(crate) places: &'a [Place],
-    pub(crate) token: u32,
-    pub(crate) nullable: &'a [bool],
-    pub(crate) first: &'a [bool],
-    pub(crate) reached: &'a [bool],
+    pub(crate) base: usize,
+    pub(crate) nullable: &'a [u128],
+    pub(crate) first: &'a [u128],
+    pub(crate) reached: &'a [u128],
 }
 
 impl Pass for FollowPass<'_> {
-    ghost valid = { λ s. FollowsFrom s.rules.now s.steps.now s.places.now s.token s.nullable.now s.first.now s.reached.now };
+    ghost valid = { λ s. FollowsFrom s.rules.now s.steps.now s.places.now s.base s.nullable.now s.first.now s.reached.now };
 
     ghost rules = { λ s. length s.rules.now };
 
     ghost items = { λ s. length s.places.now };
 
-    ghost reason = { λ s r. Follows s.rules.now r s.token };
+    ghost reason = { λ s i r. Follows s.rules.now r (token_at (s.base + i)) };
 
-    ghost settled = { λ s marks k. At s.places.now k (FollowAt s.rules.now (marked s.nullable.now) (marked s.first.now) (marked s.reached.now) s.token marks) };
+    ghost settled = { λ s masks k. At s.places.now k (λ place. EachBit (λ i. FollowAt s.rules.now (marked s.nullable.now i) (marked s.first.now i) (marked s.reached.now i) (token_at (s.base + i)) (marked masks i) place)) };
 
     fn len(&self) -> usize {
         self.places.len()
     }
 
-    fn mark(&self, item: usize, marks: &mut [bool]) -> bool {
+    fn mark(&self, item: usize, masks: &mut [u128]) -> bool {
         let place = self.places[item];
         let rule = usize::from(place.step.rule);
-        if !self.reached[rule] {
-            return false;
+        match named_at(self.rules, place) {
+            None => false,
+            Some((named, after)) => {
+                let bits = can_begin(after, self.base, masks[rule], self.nullable, self.first);
+                add(masks, usize::from(named), self.reached[rule] & bits)
+            }
         }
-        let Some((named, after)) = named_at(self.rules, place) else {
-            return false;
-        };
-        if !can_begin(after, self.token, marks[rule], self.nullable, self.first) {
-            return false;
-        }
-        add(marks, usize::from(named))
     }
 }

@@ -1,22 +1,21 @@
-ghost use Rattle.std.specs.Prelude.{◌≡◌, ℕ, ◌+◌, ◌<◌, ◌≤◌, length, IfSome, IsSome, unwrap_or, Some, IfOk, IfErr, OnOk};
+ghost use Rattle.std.specs.Prelude.{◌≡◌, ℕ, ◌<◌, ◌*◌, length, IfSome, IsSome, unwrap_or, Some, IfOk, IfErr, OnOk};
 ghost use Rattle.std.specs.Option.{ForSome};
 ghost use Rattle.vital_ll.specs.declared.prediction.RulesError.TheVariants.{NoMemory};
 ghost use Rattle.vital_ll.specs.Grammar.{alternative_of};
+ghost use Rattle.vital_ll.specs.Masks.{bit_of};
 ghost use Rattle.vital_ll.specs.Sentence.{end_mark};
 ghost use Rattle.vital_ll.specs.Choice.{IsChoice, IsPredictive, IsWellFormed};
 ghost use Rattle.vital_ll.specs.Conflict.{IsConflict};
-ghost use Rattle.vital_ll.specs.Listing.{ListsSteps};
-ghost use Rattle.vital_ll.specs.Passes.{IsAnalysis};
-ghost use Rattle.vital_ll.specs.Table.{IsFilled, token_of};
+ghost use Rattle.vital_ll.specs.Passes.{AreBlocks};
+ghost use Rattle.vital_ll.specs.Table.{IsTable};
 
-use crate::column::Analysis;
-use crate::derivation::Step;
+use crate::blocks::{Analysis, Block};
 use crate::grammar::{RuleList, Sym};
 use crate::listing::{places, steps};
-use crate::sets::{nullable_rules, reached_rules};
-use crate::token::END_MARK;
+use crate::rows::Rows;
+use crate::sets::{nullable_masks, reached_masks};
 use crate::width::width_of;
-use std::alloc::{AllocError, Global};
+use std::alloc::{AllocError, AllocFailed, Global};
 use std::marker::Model;
 
 /// Why a grammar has no table.
@@ -36,62 +35,30 @@ impl From<AllocError> for RulesError {
     }
 }
 
-/// The columns of a table, one for each token, and the first rule with a conflict in them, or the count of
-/// rules.
-#[derive(Drop)]
-struct Filled {
-    table: Vec<Option<u16>>,
-    clear: usize,
-}
+impl<T: Drop> From<AllocFailed<T>> for RulesError {
+    ghost from_gives = { λ _ e. e ≡ NoMemory };
 
-/// Fills a column for each kind below `width` and one for the end mark.
-fn fill(alloc: Global, rules: &RuleList, steps: &[Step], width: usize) -> Result<Filled, AllocError>
-    requires well_formed { IsWellFormed rules.now }
-    requires steps { ListsSteps rules.now steps.now }
-    requires narrow { width ≤ 65536 }
-    ensures { IfOk result (λ filled. IsFilled rules.now width (width + 1) filled.table.items filled.clear) }
-{
-    let places = places(alloc, rules, steps)?;
-    let nullable = nullable_rules(alloc, rules, steps)?;
-    let reached = reached_rules(alloc, rules, steps, &places)?;
-    let analysis = Analysis {
-        rules,
-        steps,
-        places: &places,
-        nullable: &nullable,
-        reached: &reached,
-    };
-    fill_columns(alloc, &analysis, width)
-}
-
-/// The token of a column: its number, and the end mark in the last one.
-fn token_of(width: usize, column: usize) -> u32
-    requires { column ≤ 65536 }
-    ensures { result ≡ token_of width column }
-{
-    if column == width {
-        END_MARK
-    } else {
-        column as u32
+    fn from(_error: AllocFailed<T>) -> RulesError {
+        RulesError::NoMemory
     }
 }
 
-/// Fills the columns one by one.
-fn fill_columns(alloc: Global, analysis: &Analysis, width: usize) -> Result<Filled, AllocError>
-    requires analysis { IsAnalysis analysis.now.rules.now analysis.now.steps.now analysis.now.places.now
-        analysis.now.nullable.now analysis.now.reached.now }
-    requires narrow { width ≤ 65536 }
-    ensures { IfOk result (λ filled.
-        IsFilled analysis.now.rules.now width (width + 1) filled.table.items filled.clear) }
-{
-    let mut table = Vec::new(alloc);
-    let mut clear = analysis.rules.len();
-    for index in 0..width + 1 {
-        let column = analysis.column(alloc, token_of(width, index), clear)?;
-        table.extend_from_slice(&column.choices)?;
-        clear = column.clear;
+impl Analysis<'_> {
+    /// The rows of each rule. The grammar is refused where the choice sets of two alternatives of a rule meet, with
+    /// the first such rule.
+    fn table(&self, alloc: Global, blocks: &[Block]) -> Result<Vec<Rows>, RulesError>
+        requires well_formed { IsWellFormed self.now.rules.now }
+        requires blocks { AreBlocks self.now.rules.now self.now.nullable.now blocks.now }
+        requires within { (r a t : ℕ) → IsChoice self.now.rules.now r a t → bit_of t < 128 * length blocks.now }
+        ensures table { IfOk result (λ table. IsTable self.now.rules.now (length blocks.now) table.items) }
+        ensures conflict { IfErr result (IsConflict self.now.rules.now) }
+    {
+        let mut table = Vec::with_capacity(alloc, self.rules.len())?;
+        for rule in 0..self.rules.len() {
+            table.push(self.rows(alloc, rule as u16, blocks)?)?;
+        }
+        Ok(table)
     }
-    Ok(Filled { table, clear })
 }
 
 /// A predictive grammar with its table: for each rule and each next token, the end mark among them, the
@@ -99,14 +66,12 @@ fn fill_columns(alloc: Global, analysis: &Analysis, width: usize) -> Result<Fill
 #[derive(Debug, Drop)]
 pub struct Rules {
     grammar: RuleList,
-    /// One more than the largest kind of token that is named.
-    width: usize,
-    /// A column of one entry a rule for each kind below `width`, and one for the end mark.
-    table: Vec<Option<u16>>,
+    /// The rows of each rule, in which bit 0 is the end mark's, and the next bits are those of the kinds.
+    table: Vec<Rows>,
 }
 
 impl Model for Rules {
-    ghost use Rattle.std.specs.Prelude.{List};
+    ghost use Rattle.std.specs.Prelude.{ℕ, List};
     ghost use Rattle.vital_ll.specs.declared.grammar.Sym.{Sym};
 
     ghost Value = { List (List (List Sym)) };
@@ -115,7 +80,7 @@ impl Model for Rules {
 
     ghost use Rattle.vital_ll.specs.Table.{IsTable};
 
-    ghost invariant = { λ r. IsTable r.grammar r.width r.table.items };
+    ghost invariant = { λ r. (blocks : ℕ) × IsTable r.grammar blocks r.table.items };
 }
 
 impl Rules {
@@ -128,17 +93,22 @@ impl Rules {
         ensures conflict { IfErr result (IsConflict rules.now) }
     {
         let steps = steps(alloc, rules)?;
-        let width = width_of(rules, &steps);
-        let Filled { table, clear } = fill(alloc, rules, &steps, width)?;
-        if clear < rules.len() {
-            return Err(RulesError::NotPredictive { rule: clear as u16 });
-        }
+        let places = places(alloc, rules, &steps)?;
+        let nullable = nullable_masks(alloc, rules, &steps)?;
+        let reached = reached_masks(alloc, rules, &steps, &places)?;
+        let analysis = Analysis {
+            rules,
+            steps: &steps,
+            places: &places,
+            nullable: &nullable,
+            reached: &reached,
+        };
+        // Bit 0 is the end mark's, so there is one bit more than kinds.
+        let count = width_of(rules, &steps) / 128 + 1;
+        let blocks = analysis.blocks(alloc, count)?;
+        let table = analysis.table(alloc, &blocks)?;
         let grammar = rules.copied(alloc)?;
-        Ok(Rules {
-            grammar,
-            width,
-            table,
-        })
+        Ok(Rules { grammar, table })
     }
 
     /// The symbol that derives the sentences.
@@ -158,12 +128,11 @@ impl Rules {
         ensures there { IfSome result (λ a. IsSome (alternative_of self.now rule a)) }
         ensures only { (a : ℕ) → IsChoice self.now rule a (unwrap_or next end_mark) → result ≡ Some a }
     {
-        let column = match next {
-            None => self.width,
-            Some(kind) if usize::from(kind) < self.width => usize::from(kind),
-            Some(_) => return None,
+        let bit = match next {
+            None => 0,
+            Some(kind) => usize::from(kind) + 1,
         };
-        self.table[column * self.grammar.len() + usize::from(rule)]
+        self.table[usize::from(rule)].at(bit)
     }
 
     /// The symbols of an alternative that is there.

@@ -1,67 +1,66 @@
 ghost use Rattle.std.specs.Prelude.{◌≡◌, ◌≤◌, IfOk};
 ghost use Rattle.vital_ll.specs.Choice.{IsWellFormed};
 ghost use Rattle.vital_ll.specs.Listing.{ListsSteps, ListsPlaces};
-ghost use Rattle.vital_ll.specs.Passes.{FollowsFrom, AreNullable, AreFirst, AreReached, AreFollowed};
+ghost use Rattle.vital_ll.specs.Passes.{FollowsFrom, NullableMasks, FirstMasks, ReachedMasks, FollowMasks};
 
 use crate::derivation::Step;
 use crate::grammar::RuleList;
 use crate::listing::Place;
 use crate::marks::saturated;
 use crate::passes::{EmptyPass, FirstPass, FollowPass, ReachPass};
-use crate::token::END_MARK;
 use std::alloc::{AllocError, Global};
 
-/// Which rules can be empty.
-pub(crate) fn nullable_rules(
+/// Which rules can be empty: all bits or none.
+pub(crate) fn nullable_masks(
     alloc: Global,
     rules: &RuleList,
     steps: &[Step],
-) -> Result<Vec<bool>, AllocError>
+) -> Result<Vec<u128>, AllocError>
     requires well_formed { IsWellFormed rules.now }
     requires steps { ListsSteps rules.now steps.now }
-    ensures { IfOk result (λ marks. AreNullable rules.now marks.items) }
+    ensures { IfOk result (λ masks. NullableMasks rules.now masks.items) }
 {
-    let none = vec![in alloc; false; rules.len()]?;
+    let none = vec![in alloc; 0u128; rules.len()]?;
     Ok(saturated(&EmptyPass { rules, steps }, none))
 }
 
-/// Which rules can begin with the token.
-pub(crate) fn first_rules(
+/// The tokens with which each rule can begin, of those whose bits begin at bit `base`.
+pub(crate) fn first_masks(
     alloc: Global,
     rules: &RuleList,
     steps: &[Step],
-    token: u32,
-    nullable: &[bool],
-) -> Result<Vec<bool>, AllocError>
+    base: usize,
+    nullable: &[u128],
+) -> Result<Vec<u128>, AllocError>
     requires well_formed { IsWellFormed rules.now }
     requires steps { ListsSteps rules.now steps.now }
-    requires nullable { AreNullable rules.now nullable.now }
-    ensures { IfOk result (λ marks. AreFirst rules.now nullable.now token marks.items) }
+    requires nullable { NullableMasks rules.now nullable.now }
+    ensures { IfOk result (λ masks. FirstMasks rules.now nullable.now base masks.items) }
 {
-    let none = vec![in alloc; false; rules.len()]?;
+    let none = vec![in alloc; 0u128; rules.len()]?;
     let pass = FirstPass {
         rules,
         steps,
-        token,
+        base,
         nullable,
     };
     Ok(saturated(&pass, none))
 }
 
-/// Which rules stand in some sentential form.
-pub(crate) fn reached_rules(
+/// Which rules stand in some sentential form: all bits or none.
+pub(crate) fn reached_masks(
     alloc: Global,
     rules: &RuleList,
     steps: &[Step],
     places: &[Place],
-) -> Result<Vec<bool>, AllocError>
+) -> Result<Vec<u128>, AllocError>
     requires well_formed { IsWellFormed rules.now }
     requires steps { ListsSteps rules.now steps.now }
     requires places { ListsPlaces rules.now steps.now places.now }
-    ensures { IfOk result (λ marks. AreReached rules.now marks.items) }
+    ensures { IfOk result (λ masks. ReachedMasks rules.now masks.items) }
 {
-    let mut first = vec![in alloc; false; rules.len()]?;
-    first[0] = true;
+    let mut first = vec![in alloc; 0u128; rules.len()]?;
+    first[0] = u128::MAX;
     let pass = ReachPass {
         rules,
         steps,
@@ -70,13 +69,13 @@ pub(crate) fn reached_rules(
     Ok(saturated(&pass, first))
 }
 
-/// Which rules the token, or the end mark, follows in some sentence.
-pub(crate) fn followed_rules(alloc: Global, pass: &FollowPass) -> Result<Vec<bool>, AllocError>
+/// The tokens that follow each rule in some sentence. The end mark, whose bit is 0, follows the first rule.
+pub(crate) fn follow_masks(alloc: Global, pass: &FollowPass) -> Result<Vec<u128>, AllocError>
     requires steps { ListsSteps pass.now.rules.now pass.now.steps.now }
-    requires valid { FollowsFrom pass.now.rules.now pass.now.steps.now pass.now.places.now pass.now.token pass.now.nullable.now pass.now.first.now pass.now.reached.now }
-    ensures { IfOk result (λ marks. AreFollowed pass.now.rules.now pass.now.nullable.now pass.now.first.now pass.now.reached.now pass.now.token marks.items) }
+    requires valid { FollowsFrom pass.now.rules.now pass.now.steps.now pass.now.places.now pass.now.base pass.now.nullable.now pass.now.first.now pass.now.reached.now }
+    ensures { IfOk result (λ masks. FollowMasks pass.now.rules.now pass.now.nullable.now pass.now.first.now pass.now.reached.now pass.now.base masks.items) }
 {
-    let mut start = vec![in alloc; false; pass.rules.len()]?;
-    start[0] = pass.token == END_MARK;
+    let mut start = vec![in alloc; 0u128; pass.rules.len()]?;
+    start[0] = u128::from(pass.base == 0);
     Ok(saturated(pass, start))
 }

@@ -1,29 +1,19 @@
-use Rattle.std.proofs.Common.{sym, ◌∙◌, subst, arith}
-use Rattle.vital_ll.proofs.Choosing.{IsColumnAt, at_end, at_kind, outside, entry_decides, entry_there}
+use Rattle.std.proofs.Common.{sym, ◌∙◌, subst, ap, ◌+◌}
+use Rattle.vital_ll.proofs.Entries.{IsBitAt, at_end, at_kind, choice_there, choice_only}
 use Rattle.vital_ll.proofs.prediction.Rules.choice.Goals as goal
 use Rattle.vital_ll.proofs.prediction.Rules.choice.Goals.{in-None, in-Some}
 
-pub returns-in-Some-2-clause-only : goal.returns-in-Some-2-clause-only
-returns-in-Some-2-clause-only c = λ a chosen.
-    absurd (outside c.args.self.now c.self.inside.grammar c.self.inside.width c.self.inside.table.items c.args.rule a c.in-Some.kind c.args.next c.self.view_is c.self.invariant c.requires.rule
-    c.in-Some.is (omega arith) (c.requires.kind c.in-Some.kind c.in-Some.is) chosen)
-
 pub returns-clause-there : goal.returns-clause-there
 returns-clause-there c =
-    let column : IsColumnAt c.self.inside.width c.args.next c.match-next.column =
-    elim c.match-next.branch [
-      | in-None w ↦ subst (λ o. IsColumnAt c.self.inside.width o c.match-next.column) (sym w.in-None.is) (at_end w.column-is)
-      | in-Some w ↦ subst (λ o. IsColumnAt c.self.inside.width o c.match-next.column) (sym w.in-Some.is) (at_kind (omega arith) (w.column-is ∙ w.from-column.ensures))
-    ] in
-    entry_there c.args.self.now c.self.inside.grammar c.self.inside.width c.self.inside.table.items c.args.rule c.match-next.column c.args.next c.index.result.now c.self.view_is c.self.invariant c.requires.rule column
-    (rw (← c.from-2.ensures, ← c.len.ensures) c.index.ensures)
+    choice_there c.args.self.now c.self.inside.grammar c.self.inside.table.items c.self.view_is c.self.invariant c.args.rule c.from-2.result c.requires.rule c.from-2.ensures c.index.result.now c.index.ensures
+    c.match-next.bit c.at.result c.at.ensures
 
 pub returns-clause-only : goal.returns-clause-only
 returns-clause-only c =
-    let column : IsColumnAt c.self.inside.width c.args.next c.match-next.column =
+    let at : IsBitAt c.args.next c.match-next.bit =
     elim c.match-next.branch [
-      | in-None w ↦ subst (λ o. IsColumnAt c.self.inside.width o c.match-next.column) (sym w.in-None.is) (at_end w.column-is)
-      | in-Some w ↦ subst (λ o. IsColumnAt c.self.inside.width o c.match-next.column) (sym w.in-Some.is) (at_kind (omega arith) (w.column-is ∙ w.from-column.ensures))
+      | in-None w ↦ subst (λ o. IsBitAt o c.match-next.bit) (sym w.in-None.is) (at_end w.bit-is)
+      | in-Some w ↦ subst (λ o. IsBitAt o c.match-next.bit) (sym w.in-Some.is) (at_kind (w.bit-is ∙ ap (λ x. x + 1) w.from.ensures))
     ] in
-    entry_decides c.args.self.now c.self.inside.grammar c.self.inside.width c.self.inside.table.items c.args.rule c.match-next.column c.args.next c.index.result.now c.self.view_is c.self.invariant c.requires.rule column
-    (rw (← c.from-2.ensures, ← c.len.ensures) c.index.ensures)
+    choice_only c.args.self.now c.self.inside.grammar c.self.inside.table.items c.self.view_is c.self.invariant c.args.rule c.from-2.result c.requires.rule c.from-2.ensures c.index.result.now c.index.ensures
+    c.match-next.bit c.at.result c.at.ensures c.args.next c.requires.kind at
