@@ -1,12 +1,10 @@
 -- The rows of a rule: the alternatives that tokens decide for.
-use Rattle.std.proofs.Common.{◌≡◌, ℕ, zero, suc, ◌+◌, ◌*◌, ◌/◌, ◌%◌, ◌^◌, ◌<◌, Bool, true, false, not, ◌||◌, ◌&&◌, cond, eqb, List, [], ◌∷◌, ◌++◌, length, get_or, set, replicate, Option, Some, None, IfSome, IsSome, is_some, unwrap_or, refl, sym, ap, ◌∙◌, subst, arith, inl, inr, slice_get, ◌⊎◌}
+use Rattle.std.proofs.Common.{◌≡◌, ℕ, zero, suc, ◌+◌, ◌*◌, ◌/◌, ◌%◌, ◌^◌, ◌<◌, ◌≤◌, Bool, true, false, not, ◌||◌, ◌&&◌, cond, eqb, List, [], ◌∷◌, ◌++◌, length, get_or, set, replicate, Option, Some, None, IsSome, is_some, refl, sym, ap, ◌∙◌, subst, arith, inl, inr, slice_get, ◌⊎◌}
 use mir.Syntax.{w128}
 use Rattle.std.specs.Int.{trailing_zeros}
 use Rattle.std.specs.Int.Bits.{bit_or, bit_and}
 use Rattle.std.proofs.lemmas.Bool.{cases_eq, cases_lt, cases_Bool, eq-eqb, ne_eqb, and_parts, and_from, and_right, or_right, cond-true, cond-false}
-use Rattle.std.proofs.lemmas.List.{get_or-set_same, get_or-set_other, get_or_append_left, get_or-append-add, length-append, length-set, get_or_past, get_or_read}
-use Rattle.std.specs.Option.{ForSome}
-use Rattle.vital_ll.specs.Sentence.{end_mark}
+use Rattle.std.proofs.lemmas.List.{get_or-set_same, get_or-set_other, get_or_append_left, get_or-append-add, length-append, length-set, get_or_past}
 use Rattle.vital_ll.specs.declared.prediction.RulesError.{RulesError}
 use Rattle.vital_ll.specs.declared.prediction.RulesError.TheVariants.{NotPredictive, NoMemory}
 use Rattle.vital_ll.specs.declared.blocks.Block.{Block}
@@ -19,7 +17,7 @@ use Rattle.vital_ll.specs.Conflict.{IsConflict, IsConflictAt}
 use Rattle.vital_ll.specs.Marks.{Marks, has, marked, begins, FirstClosed, FollowClosed}
 use Rattle.vital_ll.specs.Masks.{bit_of, token_at}
 use Rattle.vital_ll.specs.Passes.{EachBit, AreSets, IsAnalysis, FirstMasks, FollowsFrom, FollowMasks, IsBlock, AreBlocks}
-use Rattle.vital_ll.specs.Table.{IsChoiceMask, IsRow, IsPartOfRow, AreRows, IsTable, entry_at}
+use Rattle.vital_ll.specs.Table.{IsChoiceMask, IsRow, IsPartOfRow, AreRows, HasRows, entry_at}
 use Rattle.vital_ll.proofs.Bits.{has-or, has-and, has_none, lowest, token_at-bit}
 use Rattle.vital_ll.proofs.Complete.{AreClosed, choice_marked}
 use Rattle.vital_ll.proofs.Sound.{choice_sound}
@@ -150,7 +148,7 @@ row_done g r base n seen choices inside n_is p = record {
   only = λ i t a low e chosen. p.only i t a low e (let b = bounds_of g r a (ap is_some chosen.1) in omega arith) chosen;
 }
 
-get_or_last : {A : Type 0} (xs : List A) (x d : A) (k : ℕ) → k ≡ length xs → get_or (xs ++ x ∷ []) k d ≡ x
+pub get_or_last : {A : Type 0} (xs : List A) (x d : A) (k : ℕ) → k ≡ length xs → get_or (xs ++ x ∷ []) k d ≡ x
 get_or_last xs x d k e = subst (λ (j : ℕ). get_or (xs ++ x ∷ []) j d ≡ x) (let f : length xs + 0 ≡ k = omega arith in f) (get_or-append-add xs (x ∷ []) 0 d)
 
 -- one more row
@@ -217,11 +215,22 @@ conflict_first g blocks n table (NotPredictive c) within t (same, conflict) = re
 }
 conflict_first g blocks n table NoMemory within t h = tt
 
--- the table of a grammar shows that it's predictive
-pub predictive : (g : Grammar) (blocks : ℕ) (table : List (List (List (Option ℕ)))) → IsTable g blocks table → IsPredictive g
-predictive g blocks table t r (a, b, u, other, has_a, has_b) =
+-- rows of all rules show that the grammar is predictive
+pub predictive : (g : Grammar) (blocks n : ℕ) (rows : List (List (List (Option ℕ)))) → ((r a t : ℕ) → IsChoice g r a t → bit_of t < 128 * blocks) → length g ≤ n → AreTableRows g blocks n rows → IsPredictive g
+predictive g blocks n rows within past t r (a, b, u, other, has_a, has_b) =
     let inside = (bounds_of g r a (ap is_some has_a.1)).0 in
-    no_conflict g r blocks (get_or table r []) (t.within r) (t.each r inside) (a, b, u, other, has_a, has_b)
+    no_conflict g r blocks (get_or rows r []) (within r) (t.each r (omega arith)) (a, b, u, other, has_a, has_b)
+
+-- and have an entry for each token of a choice set
+pub has_rows : (g : Grammar) (blocks n : ℕ) (rows : List (List (List (Option ℕ)))) → ((r a t : ℕ) → IsChoice g r a t → bit_of t < 128 * blocks) → n ≡ length g → AreTableRows g blocks n rows → HasRows g (128 * blocks) rows
+has_rows g blocks n rows within n_is t = record {
+  size = t.size ∙ n_is;
+  there = λ r bit a inside e. entry_there g r blocks bit a (get_or rows r []) (t.each r (omega arith)) e;
+  only = λ r a u chosen.
+      let inside = (bounds_of g r a (ap is_some chosen.1)).0 in
+      let low = within r a u chosen in
+      (low, entry_decides g r blocks (bit_of u) u a (get_or rows r []) (t.each r (omega arith)) refl low chosen);
+}
 
 -- the marks of a token are those that hold its choice sets
 closed_sets : (g : Grammar) (bit : ℕ) (nullable first reached follow : Marks) → (t : ℕ) → bit_of t ≡ bit → AreSets g bit nullable first reached follow → AreClosed g nullable first reached follow t
@@ -250,44 +259,6 @@ choice_mask_is g r a nullable base block chosen mask well block_is is mask_is = 
       (choice_marked g (marked nullable i) (marked block.first.items i) s.0 (marked block.follow.items i) t r a chosen (closed_sets g (base + i) (marked nullable i) (marked block.first.items i) s.0 (marked block.follow.items i) t e s.1) is h);
 }
 
--- where the bit of the next token is
-pub data IsBitAt : Option ℕ → ℕ → Type 0 where
-  at_end : {bit : ℕ} → bit ≡ 0 → IsBitAt None bit
-  at_kind : {kind bit : ℕ} → bit ≡ kind + 1 → IsBitAt (Some kind) bit
-
-next_bit : (next : Option ℕ) (bit : ℕ) → ForSome next (λ k. k < end_mark) → IsBitAt next bit → bit ≡ bit_of (unwrap_or next end_mark)
-next_bit next bit low (at_end e) = e
-next_bit next bit low (at_kind {kind = kind} e) =
-    e ∙ sym (ap (λ (b : Bool). cond b 0 (kind + 1)) (ne_eqb kind end_mark (let k : kind < end_mark = low kind refl in λ (f : kind ≡ end_mark). omega arith)))
-
-rows_read : (g : Grammar) (blocks r rule : ℕ) (table : List (List (List (Option ℕ)))) (rows : List (List (Option ℕ))) → IsTable g blocks table → r < length g → rule ≡ r → rows ≡ get_or table rule rows → AreRows g r blocks rows
-rows_read g blocks r rule table rows t inside same read =
-    subst (AreRows g r blocks) (sym (get_or_read table r rows (let s = t.size in omega arith) (read ∙ ap (λ (x : ℕ). get_or table x rows) same) [])) (t.each r inside)
-
-if_some : (P : ℕ → Type 0) (read : Option ℕ) → ((a : ℕ) → read ≡ Some a → P a) → IfSome read P
-if_some P None f = tt
-if_some P (Some a) f = f a refl
-
-module _ (g h : Grammar) (table : List (List (List (Option ℕ)))) (same : h ≡ g) (table_is : (blocks : ℕ) × IsTable h blocks table) (r rule : ℕ) (inside : r < length g) (rule_is : rule ≡ r)
-    (rows : List (List (Option ℕ))) (read : rows ≡ get_or table rule rows) (bit : ℕ) (entry : Option ℕ) (entry_is : entry ≡ entry_at rows bit) where
-  low : r < length h
-  low = subst (λ (x : Grammar). r < length x) (sym same) inside
-
-  rows_are : AreRows h r table_is.0 rows
-  rows_are = rows_read h table_is.0 r rule table rows table_is.1 low rule_is read
-
-  -- the entry that is read is an alternative that is there
-  pub choice_there : IfSome entry (λ a. IsSome (alternative_of g r a))
-  choice_there = if_some (λ a. IsSome (alternative_of g r a)) entry (λ a e.
-      subst (λ (x : Grammar). IsSome (alternative_of x r a)) same (entry_there h r table_is.0 bit a rows rows_are (sym entry_is ∙ e)))
-
-  -- and the one that the next token decides for
-  pub choice_only : (next : Option ℕ) → ForSome next (λ k. k < end_mark) → IsBitAt next bit → (a : ℕ) → IsChoice g r a (unwrap_or next end_mark) → entry ≡ Some a
-  choice_only next kind at a chosen =
-      let in_h = subst (λ (x : Grammar). IsChoice x r a (unwrap_or next end_mark)) (sym same) chosen in
-      let e = next_bit next bit kind at in
-      entry_is ∙ entry_decides h r table_is.0 bit (unwrap_or next end_mark) a rows rows_are e (subst (λ (x : ℕ). x < 128 * table_is.0) (sym e) (table_is.1.within r a (unwrap_or next end_mark) in_h)) in_h
-
 -- what the masks for what follows are found from
 pub follows_from : (g : Grammar) (steps : List Step) (places : List Place) (base : ℕ) (nullable first reached : List ℕ) → IsAnalysis g steps places nullable reached → FirstMasks g nullable base first →
     FollowsFrom g steps places base nullable first reached
@@ -313,7 +284,7 @@ block_made g steps places base nullable reached block a base_is f h = record {
   each = λ i low. (marked reached i, record { nullable_is = a.nullable_is.each i low; first_is = f.each i low; reached_is = a.reached_is.each i low; follow_is = h.each i low });
 }
 
-at_push_cases : {A : Type 0} (xs : List A) (y : A) (k : ℕ) (x : A) → slice_get (xs ++ y ∷ []) k ≡ Some x → (slice_get xs k ≡ Some x) ⊎ ((k ≡ length xs) × (y ≡ x))
+pub at_push_cases : {A : Type 0} (xs : List A) (y : A) (k : ℕ) (x : A) → slice_get (xs ++ y ∷ []) k ≡ Some x → (slice_get xs k ≡ Some x) ⊎ ((k ≡ length xs) × (y ≡ x))
 at_push_cases [] y zero x e = inr (refl, cc)
 at_push_cases [] y (suc k) x e = absurd (cc)
 at_push_cases (z ∷ xs) y zero x e = inl e

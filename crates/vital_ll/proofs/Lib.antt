@@ -10,6 +10,8 @@ pub mod Passing
 pub mod Made
 pub mod Known
 pub mod Entries
+pub mod Columns
+pub mod Stacked
 pub mod ByTables
 pub mod Leads
 pub mod Deciding

@@ -1,6 +1,6 @@
 -- The state of reading: the tokens taken, the stack and the steps written.
-use Rattle.std.proofs.Common.{◌≡◌, ℕ, ◌+◌, ◌<◌, ◌≤◌, List, [], ◌∷◌, ◌++◌, length, reverse, take, get_or, Option, Some, None, Err, sym, ap, ◌∙◌, subst, append_assoc, arith, Bool, true, false, IsTrue, IsSome, is_some, unwrap_or, ◌↔◌}
-use Rattle.std.proofs.lemmas.List.{reverse-append, take_all, get_or_past}
+use Rattle.std.proofs.Common.{◌≡◌, ℕ, ◌+◌, ◌<◌, ◌≤◌, List, [], ◌∷◌, ◌++◌, length, take, get_or, Option, Some, None, Err, sym, ap, ◌∙◌, subst, append_assoc, arith, Bool, true, false, IsTrue, IsSome, is_some, unwrap_or, ◌↔◌}
+use Rattle.std.proofs.lemmas.List.{take_all, get_or_past}
 use Rattle.std.proofs.lemmas.List.Elements.{All-head}
 use Rattle.vital_ll.specs.declared.grammar.Sym.{Sym}
 use Rattle.vital_ll.specs.declared.grammar.Sym.TheVariants.{Token, Rule}
@@ -12,11 +12,11 @@ use Rattle.vital_ll.specs.Readings.{IsReading}
 use Rattle.vital_ll.proofs.Deriving.{step}
 use Rattle.vital_ll.proofs.Progress.{IsProgress, IsProgress-start, IsProgress-take_next, IsProgress-expand, none_derives, refused_at, stuck_token, stuck_rule, done}
 
--- the symbols that are left stand on the stack, the first of them topmost, above the end mark
-pub record IsParsing (g : Grammar) (tokens : List ℕ) (taken : ℕ) (stack : List Sym) (steps : List Step) : Type 0 where
+-- the symbols that are left, before the end mark
+pub record IsParsing (g : Grammar) (tokens : List ℕ) (taken : ℕ) (pending : List Sym) (steps : List Step) : Type 0 where
   pub well_formed : IsWellFormed g
   pub within : taken ≤ length tokens
-  pub progress : IsProgress g (take taken tokens) (get_or tokens taken end_mark) (reverse stack ++ Token end_mark ∷ []) steps
+  pub progress : IsProgress g (take taken tokens) (get_or tokens taken end_mark) (pending ++ Token end_mark ∷ []) steps
 
 pub parsing_start : (g : Grammar) (tokens : List ℕ) (stack : List Sym) (steps : List Step) → IsWellFormed g → stack ≡ Rule 0 ∷ [] → steps ≡ [] →
     IsParsing g tokens 0 stack steps
@@ -25,63 +25,63 @@ parsing_start g tokens stack steps well stack_is steps_is =
     (subst (λ (t : List Step). IsParsing g tokens 0 (Rule 0 ∷ []) t) (sym steps_is)
     (record { well_formed = well; within = omega arith; progress = IsProgress-start g (get_or tokens 0 end_mark) well.some_rule }))
 
--- with a symbol taken from the stack
-popped : (g : Grammar) (tokens : List ℕ) (k : ℕ) (old new : List Sym) (x : Sym) (steps : List Step) → IsParsing g tokens k old steps → old ≡ new ++ x ∷ [] →
-    IsProgress g (take k tokens) (get_or tokens k end_mark) (x ∷ (reverse new ++ Token end_mark ∷ [])) steps
+-- with the first symbol taken
+popped : (g : Grammar) (tokens : List ℕ) (k : ℕ) (old new : List Sym) (x : Sym) (steps : List Step) → IsParsing g tokens k old steps → old ≡ x ∷ new →
+    IsProgress g (take k tokens) (get_or tokens k end_mark) (x ∷ (new ++ Token end_mark ∷ [])) steps
 popped g tokens k old new x steps p e =
-    subst (λ (l : List Sym). IsProgress g (take k tokens) (get_or tokens k end_mark) (l ++ Token end_mark ∷ []) steps) (ap reverse e ∙ reverse-append new (x ∷ [])) p.progress
+    subst (λ (l : List Sym). IsProgress g (take k tokens) (get_or tokens k end_mark) (l ++ Token end_mark ∷ []) steps) e p.progress
 
 refuses : (g : Grammar) (tokens : List ℕ) (k : ℕ) → IsRefusedAt g tokens k → IsReading g tokens (Err k)
 refuses g tokens k r = (none_derives g tokens k r, r)
 
-pub refused_token : (g : Grammar) (tokens : List ℕ) (k : ℕ) (old new : List Sym) (t : ℕ) (steps : List Step) → IsParsing g tokens k old steps → old ≡ new ++ Token t ∷ [] →
+pub refused_token : (g : Grammar) (tokens : List ℕ) (k : ℕ) (old new : List Sym) (t : ℕ) (steps : List Step) → IsParsing g tokens k old steps → old ≡ Token t ∷ new →
     (t ≡ get_or tokens k end_mark → ⊥) → IsReading g tokens (Err k)
 refused_token g tokens k old new t steps p e other =
-    refuses g tokens k (refused_at g tokens k _ steps p.well_formed p.within (popped g tokens k old new (Token t) steps p e) (stuck_token g t (get_or tokens k end_mark) (reverse new ++ Token end_mark ∷ []) other))
+    refuses g tokens k (refused_at g tokens k _ steps p.well_formed p.within (popped g tokens k old new (Token t) steps p e) (stuck_token g t (get_or tokens k end_mark) (new ++ Token end_mark ∷ []) other))
 
-pub take_token : (g : Grammar) (tokens : List ℕ) (k : ℕ) (old new : List Sym) (t : ℕ) (steps : List Step) → IsParsing g tokens k old steps → old ≡ new ++ Token t ∷ [] →
+pub take_token : (g : Grammar) (tokens : List ℕ) (k : ℕ) (old new : List Sym) (t : ℕ) (steps : List Step) → IsParsing g tokens k old steps → old ≡ Token t ∷ new →
     k < length tokens → get_or tokens k end_mark ≡ t → IsParsing g tokens (k + 1) new steps
 take_token g tokens k old new t steps p e inside is =
     let q = popped g tokens k old new (Token t) steps p e in
     record {
       well_formed = p.well_formed;
       within = omega arith;
-      progress = IsProgress-take_next g tokens k t (reverse new ++ Token end_mark ∷ []) steps inside is q;
+      progress = IsProgress-take_next g tokens k t (new ++ Token end_mark ∷ []) steps inside is q;
     }
 
-pub rule_is_there : (g : Grammar) (tokens : List ℕ) (k : ℕ) (old new : List Sym) (r : ℕ) (steps : List Step) → IsParsing g tokens k old steps → old ≡ new ++ Rule r ∷ [] → r < length g
+pub rule_is_there : (g : Grammar) (tokens : List ℕ) (k : ℕ) (old new : List Sym) (r : ℕ) (steps : List Step) → IsParsing g tokens k old steps → old ≡ Rule r ∷ new → r < length g
 rule_is_there g tokens k old new r steps p e =
-    All-head (IsNamed (length g)) (Rule r) (reverse new ++ Token end_mark ∷ []) (popped g tokens k old new (Rule r) steps p e).named
+    All-head (IsNamed (length g)) (Rule r) (new ++ Token end_mark ∷ []) (popped g tokens k old new (Rule r) steps p e).named
 
-pub refused_rule : (g : Grammar) (tokens : List ℕ) (k : ℕ) (old new : List Sym) (r next : ℕ) (steps : List Step) → IsParsing g tokens k old steps → old ≡ new ++ Rule r ∷ [] →
+pub refused_rule : (g : Grammar) (tokens : List ℕ) (k : ℕ) (old new : List Sym) (r next : ℕ) (steps : List Step) → IsParsing g tokens k old steps → old ≡ Rule r ∷ new →
     next ≡ get_or tokens k end_mark → ((a : ℕ) → IsChoice g r a next → ⊥) → IsReading g tokens (Err k)
 refused_rule g tokens k old new r next steps p e is none =
     let q = popped g tokens k old new (Rule r) steps p e in
     let none_here = subst (λ (x : ℕ). (a : ℕ) → IsChoice g r a x → ⊥) is none in
     refuses g tokens k (refused_at g tokens k _ steps p.well_formed p.within q
-    (stuck_rule g (take k tokens) (get_or tokens k end_mark) r (reverse new ++ Token end_mark ∷ []) steps q none_here))
+    (stuck_rule g (take k tokens) (get_or tokens k end_mark) r (new ++ Token end_mark ∷ []) steps q none_here))
 
 pub expand_rule : (g : Grammar) (tokens : List ℕ) (k : ℕ) (old new pushed : List Sym) (r a next : ℕ) (chosen : List Sym) (steps more : List Step) →
-    IsParsing g tokens k old steps → old ≡ new ++ Rule r ∷ [] → next ≡ get_or tokens k end_mark → ((b : ℕ) → IsChoice g r b next → Some a ≡ Some b) →
-    alternative_of g r a ≡ Some chosen → reverse pushed ≡ chosen ++ reverse new → more ≡ steps ++ step r a ∷ [] → IsParsing g tokens k pushed more
+    IsParsing g tokens k old steps → old ≡ Rule r ∷ new → next ≡ get_or tokens k end_mark → ((b : ℕ) → IsChoice g r b next → Some a ≡ Some b) →
+    alternative_of g r a ≡ Some chosen → pushed ≡ chosen ++ new → more ≡ steps ++ step r a ∷ [] → IsParsing g tokens k pushed more
 expand_rule g tokens k old new pushed r a next chosen steps more p e is decided at pushed_is more_is =
     let q = popped g tokens k old new (Rule r) steps p e in
     let decided_here = subst (λ (x : ℕ). (b : ℕ) → IsChoice g r b x → Some a ≡ Some b) is decided in
-    let x = IsProgress-expand g (take k tokens) (get_or tokens k end_mark) r a chosen (reverse new ++ Token end_mark ∷ []) steps p.well_formed q at
+    let x = IsProgress-expand g (take k tokens) (get_or tokens k end_mark) r a chosen (new ++ Token end_mark ∷ []) steps p.well_formed q at
     (λ b h. let s : Some a ≡ Some b = decided_here b h in let t : b ≡ a = cc in t) in
-    let stack_is : chosen ++ (reverse new ++ Token end_mark ∷ []) ≡ reverse pushed ++ Token end_mark ∷ [] =
-    sym (append_assoc chosen (reverse new) (Token end_mark ∷ [])) ∙ ap (λ (l : List Sym). l ++ Token end_mark ∷ []) (sym pushed_is) in
+    let stack_is : chosen ++ (new ++ Token end_mark ∷ []) ≡ pushed ++ Token end_mark ∷ [] =
+    sym (append_assoc chosen new (Token end_mark ∷ [])) ∙ ap (λ (l : List Sym). l ++ Token end_mark ∷ []) (sym pushed_is) in
     record {
       well_formed = p.well_formed;
       within = p.within;
-      progress = subst (λ (l : List Step). IsProgress g (take k tokens) (get_or tokens k end_mark) (reverse pushed ++ Token end_mark ∷ []) l) (sym more_is)
+      progress = subst (λ (l : List Step). IsProgress g (take k tokens) (get_or tokens k end_mark) (pushed ++ Token end_mark ∷ []) l) (sym more_is)
           (subst (λ (l : List Sym). IsProgress g (take k tokens) (get_or tokens k end_mark) l (steps ++ step r a ∷ [])) stack_is x);
     }
 
 at_end : (g : Grammar) (tokens : List ℕ) (k : ℕ) (stack : List Sym) (steps : List Step) → IsParsing g tokens k stack steps → stack ≡ [] →
     IsProgress g (take k tokens) (get_or tokens k end_mark) (Token end_mark ∷ []) steps
 at_end g tokens k stack steps p e =
-    subst (λ (l : List Sym). IsProgress g (take k tokens) (get_or tokens k end_mark) (reverse l ++ Token end_mark ∷ []) steps) e p.progress
+    subst (λ (l : List Sym). IsProgress g (take k tokens) (get_or tokens k end_mark) (l ++ Token end_mark ∷ []) steps) e p.progress
 
 pub refused_end : (g : Grammar) (tokens : List ℕ) (k : ℕ) (stack : List Sym) (steps : List Step) → IsParsing g tokens k stack steps → stack ≡ [] →
     get_or tokens k end_mark < end_mark → IsReading g tokens (Err k)

@@ -2,6 +2,7 @@ pub mod Grammar
 pub mod Sentence
 pub mod Choice
 pub mod Table
+pub mod Pending
 pub mod Readings
 pub mod Refusal
 pub mod Marks

@@ -10,10 +10,12 @@ mod laws;
 mod listing;
 mod marks;
 mod passes;
+mod pending;
 mod prediction;
 mod reading;
 mod rows;
 mod sets;
+mod table;
 mod width;
 
 pub use derivation::{Step, Tree};

@@ -1,19 +1,17 @@
-ghost use Rattle.std.specs.Prelude.{◌≡◌, ℕ, ◌<◌, ◌*◌, length, IfSome, IsSome, unwrap_or, Some, IfOk, IfErr, OnOk};
-ghost use Rattle.std.specs.Option.{ForSome};
+ghost use Rattle.std.specs.Prelude.{◌≡◌, ℕ, ◌<◌, ◌*◌, length, IfOk, IfErr, OnOk};
 ghost use Rattle.vital_ll.specs.declared.prediction.RulesError.TheVariants.{NoMemory};
-ghost use Rattle.vital_ll.specs.Grammar.{alternative_of};
 ghost use Rattle.vital_ll.specs.Masks.{bit_of};
-ghost use Rattle.vital_ll.specs.Sentence.{end_mark};
 ghost use Rattle.vital_ll.specs.Choice.{IsChoice, IsPredictive, IsWellFormed};
 ghost use Rattle.vital_ll.specs.Conflict.{IsConflict};
 ghost use Rattle.vital_ll.specs.Passes.{AreBlocks};
-ghost use Rattle.vital_ll.specs.Table.{IsTable};
+ghost use Rattle.vital_ll.specs.Table.{HasRows, IsTable};
 
 use crate::blocks::{Analysis, Block};
-use crate::grammar::{RuleList, Sym};
+use crate::grammar::RuleList;
 use crate::listing::{places, steps};
 use crate::rows::Rows;
 use crate::sets::{nullable_masks, reached_masks};
+use crate::table::Table;
 use crate::width::width_of;
 use std::alloc::{AllocError, AllocFailed, Global};
 use std::marker::Model;
@@ -46,18 +44,19 @@ impl<T: Drop> From<AllocFailed<T>> for RulesError {
 impl Analysis<'_> {
     /// The rows of each rule. The grammar is refused where the choice sets of two alternatives of a rule meet, with
     /// the first such rule.
-    fn table(&self, alloc: Global, blocks: &[Block]) -> Result<Vec<Rows>, RulesError>
+    fn all_rows(&self, alloc: Global, blocks: &[Block]) -> Result<Vec<Rows>, RulesError>
         requires well_formed { IsWellFormed self.now.rules.now }
         requires blocks { AreBlocks self.now.rules.now self.now.nullable.now blocks.now }
         requires within { (r a t : ℕ) → IsChoice self.now.rules.now r a t → bit_of t < 128 * length blocks.now }
-        ensures table { IfOk result (λ table. IsTable self.now.rules.now (length blocks.now) table.items) }
+        ensures rows { IfOk result (λ rows. HasRows self.now.rules.now (128 * length blocks.now) rows.items) }
+        ensures predictive { OnOk result (IsPredictive self.now.rules.now) }
         ensures conflict { IfErr result (IsConflict self.now.rules.now) }
     {
-        let mut table = Vec::with_capacity(alloc, self.rules.len())?;
+        let mut all = Vec::with_capacity(alloc, self.rules.len())?;
         for rule in 0..self.rules.len() {
-            table.push(self.rows(alloc, rule as u16, blocks)?)?;
+            all.push(self.rows(alloc, rule as u16, blocks)?)?;
         }
-        Ok(table)
+        Ok(all)
     }
 }
 
@@ -66,12 +65,11 @@ impl Analysis<'_> {
 #[derive(Debug, Drop)]
 pub struct Rules {
     grammar: RuleList,
-    /// The rows of each rule, in which bit 0 is the end mark's, and the next bits are those of the kinds.
-    table: Vec<Rows>,
+    table: Table,
 }
 
 impl Model for Rules {
-    ghost use Rattle.std.specs.Prelude.{ℕ, List};
+    ghost use Rattle.std.specs.Prelude.{List};
     ghost use Rattle.vital_ll.specs.declared.grammar.Sym.{Sym};
 
     ghost Value = { List (List (List Sym)) };
@@ -80,7 +78,7 @@ impl Model for Rules {
 
     ghost use Rattle.vital_ll.specs.Table.{IsTable};
 
-    ghost invariant = { λ r. (blocks : ℕ) × IsTable r.grammar blocks r.table.items };
+    ghost invariant = { λ r. IsTable r.grammar r.table };
 }
 
 impl Rules {
@@ -106,40 +104,16 @@ impl Rules {
         // Bit 0 is the end mark's, so there is one bit more than kinds.
         let count = width_of(rules, &steps) / 128 + 1;
         let blocks = analysis.blocks(alloc, count)?;
-        let table = analysis.table(alloc, &blocks)?;
+        let rows = analysis.all_rows(alloc, &blocks)?;
+        let table = Table::make(alloc, rules, &rows, 128 * count)?;
         let grammar = rules.copied(alloc)?;
         Ok(Rules { grammar, table })
     }
 
-    /// The symbol that derives the sentences.
-    pub(crate) fn start(&self) -> Sym
-        ensures first { result ≡ Sym.Rule 0 }
-        ensures well_formed { IsWellFormed self.now }
+    /// The table.
+    pub(crate) fn table(&self) -> &Table
+        ensures { IsTable self.now result.now }
     {
-        // The grammar is read so that what holds of each `Rules` is at hand.
-        let _ = &self.grammar;
-        Sym::Rule(0)
-    }
-
-    /// The alternative of the rule that this token decides for; none of these is the end mark.
-    pub(crate) fn choice(&self, rule: u16, next: Option<u16>) -> Option<u16>
-        requires rule { rule < length self.now }
-        requires kind { ForSome next (λ k. k < end_mark) }
-        ensures there { IfSome result (λ a. IsSome (alternative_of self.now rule a)) }
-        ensures only { (a : ℕ) → IsChoice self.now rule a (unwrap_or next end_mark) → result ≡ Some a }
-    {
-        let bit = match next {
-            None => 0,
-            Some(kind) => usize::from(kind) + 1,
-        };
-        self.table[usize::from(rule)].at(bit)
-    }
-
-    /// The symbols of an alternative that is there.
-    pub(crate) fn symbols(&self, rule: u16, alternative: u16) -> &[Sym]
-        requires { IsSome (alternative_of self.now rule alternative) }
-        ensures { alternative_of self.now rule alternative ≡ Some result.now }
-    {
-        self.grammar.symbols(rule, alternative)
+        &self.table
     }
 }

@@ -1,12 +1,13 @@
-ghost use Rattle.std.specs.Prelude.{◌≡◌, ℕ, ◌^◌, ◌<◌, ◌++◌, List, length, reverse, IfOk, IfErr, OnOk, IsTrue, IsSome, Some, ◌↔◌, unwrap_or, slice_index_or};
+ghost use Rattle.std.specs.Prelude.{◌≡◌, ℕ, ◌^◌, ◌<◌, List, length, IfOk, IfErr, IsTrue, IsSome, Some, ◌↔◌, unwrap_or, slice_index_or};
 ghost use Rattle.std.specs.Option.{ForSome};
 ghost use Rattle.vital_ll.specs.declared.derivation.Step.{Step};
 ghost use Rattle.vital_ll.specs.declared.reading.ParseError.TheVariants.{NoMemory};
 ghost use Rattle.vital_ll.specs.Sentence.{IsTreeOf, end_mark};
 ghost use Rattle.vital_ll.specs.Refusal.{IsRefusal};
 
-use crate::derivation::{Step, Tree};
+use crate::derivation::Tree;
 use crate::grammar::Sym;
+use crate::pending::Pending;
 use crate::prediction::Rules;
 use std::alloc::{AllocError, AllocFailed, Global};
 
@@ -36,16 +37,6 @@ impl<T: Drop> From<AllocFailed<T>> for ParseError {
     }
 }
 
-/// Puts the symbols on the stack, the first of them topmost.
-fn push_reversed(stack: &mut Vec<Sym>, symbols: &[Sym]) -> Result<(), AllocError>
-    ensures { OnOk result (reverse stack.new.items ≡ symbols.now ++ reverse stack.old.items) }
-{
-    for index in (0..symbols.len()).rev() {
-        stack.push(symbols[index])?;
-    }
-    Ok(())
-}
-
 /// The token of this number, or none after the last.
 fn token_at(kinds: &[u16], index: usize) -> Option<u16>
     ensures token { unwrap_or result end_mark ≡ slice_index_or kinds.now index end_mark }
@@ -72,9 +63,9 @@ fn is_kind(next: Option<u16>, kind: u16) -> bool
 /// The derivation of the tokens of these kinds, of which there is one where there is any. Else the first
 /// token that no sentence goes on with.
 ///
-/// The stack holds the symbols that are left, the next one topmost. The next token decides for the one
-/// alternative of a rule by one look-up, and each step is written once. Each turn takes a token or writes
-/// a step, so the call ends: a list of steps without an end would end in want of memory.
+/// The next token decides for the one alternative of a rule by one look-up in its column, and each step is written
+/// once. Each turn takes a token or writes a step, so the call ends: a list of steps without an end would end in
+/// want of memory.
 pub fn parse(alloc: Global, rules: &Rules, kinds: &[u16]) -> Result<Tree, ParseError>
     requires { length kinds.now < 2 ^ 32 }
     ensures tree { IfOk result (IsTreeOf rules.now kinds.now) }
@@ -82,28 +73,29 @@ pub fn parse(alloc: Global, rules: &Rules, kinds: &[u16]) -> Result<Tree, ParseE
         (other : List Step) → IsTreeOf rules.now kinds.now other → other ≡ tree) }
     ensures refused { IfErr result (IsRefusal rules.now kinds.now) }
 {
+    let table = rules.table();
+    let first = [Sym::Rule(0)];
+    let mut pending = Pending::new(alloc, &first);
     let mut steps = Vec::new(alloc);
-    let mut stack = Vec::new(alloc);
     let mut taken = 0usize;
-    stack.push(rules.start())?;
-    while let Some(symbol) = stack.pop() {
-        let next = token_at(kinds, taken);
-        let refused = ParseError::Refused {
-            token: taken as u32,
-        };
+    let mut column = table.column(token_at(kinds, 0));
+    while let Some(symbol) = pending.next() {
         match symbol {
             Sym::Token(kind) => {
-                if !is_kind(next, kind) {
-                    return Err(refused);
+                if !is_kind(token_at(kinds, taken), kind) {
+                    let token = taken as u32;
+                    return Err(ParseError::Refused { token });
                 }
                 taken += 1;
+                column = table.column(token_at(kinds, taken));
             }
             Sym::Rule(rule) => {
-                let Some(alternative) = rules.choice(rule, next) else {
-                    return Err(refused);
+                let Some(entry) = column[usize::from(rule)] else {
+                    let token = taken as u32;
+                    return Err(ParseError::Refused { token });
                 };
-                steps.push(Step { rule, alternative })?;
-                push_reversed(&mut stack, rules.symbols(rule, alternative))?;
+                steps.push(entry.step)?;
+                pending.push(table.symbols(entry))?;
             }
         }
     }

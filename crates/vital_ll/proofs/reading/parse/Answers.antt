@@ -1,59 +1,78 @@
-use Rattle.std.proofs.Common.{◌++◌, ◌∷◌, [], sym, ◌∙◌, ap, subst, arith, rules}
+use Rattle.std.proofs.Common.{◌++◌, ◌∷◌, [], get_or, Some, None, refl, sym, ◌∙◌, ap, subst, arith, rules}
 use Rattle.std.proofs.lemmas.List.{get_or_default}
 use Rattle.vital_ll.specs.declared.grammar.Sym.{Sym}
+use Rattle.vital_ll.specs.declared.derivation.Step.{Step}
+use Rattle.vital_ll.specs.Pending.{symbols_of}
 use Rattle.vital_ll.specs.Sentence.{end_mark, IsTreeOf}
-use Rattle.vital_ll.proofs.Parsing.{parsing_start, refused_token, take_token, rule_is_there, refused_rule, expand_rule, refused_end, all_read, other_token, this_token, token_inside}
+use Rattle.vital_ll.specs.Table.{IsColumn}
+use Rattle.vital_ll.proofs.Columns.{entry_is, no_entry, same_alternative}
+use Rattle.vital_ll.proofs.Parsing.{parsing_start, refused_token, take_token, refused_rule, expand_rule, refused_end, all_read, other_token, this_token, token_inside}
 use Rattle.vital_ll.proofs.reading.parse.Goals as goal
 
 pub loop-symbol-init : goal.loop-symbol-init
-loop-symbol-init c = parsing_start _ _ _ _ c.start.ensures.well_formed (search rules) c.new-steps.ensures.items
+loop-symbol-init c = (
+  parsing_start c.args.rules.now c.args.kinds.now (symbols_of c.new-pending.result) c.new-steps.result.items c.table-table.ensures.well_formed (search rules) c.new-steps.ensures.items,
+  subst (λ t. IsColumn c.table-table.result.now.columns.items t c.column-column.result.now) c.token_at.ensures.token c.column-column.ensures,
+)
 
 pub returns-then-not-is_kind-clause-refused : goal.returns-then-not-is_kind-clause-refused
 returns-then-not-is_kind-clause-refused c =
-    refused_token c.args.rules.now c.args.kinds.now c.loop-symbol.taken c.loop-symbol.stack.items c.pop.new.self.items c.in-Token.kind c.loop-symbol.steps.items c.loop-symbol.invariant
-    (c.in-Some.ensures.items ∙ ap (λ (s : Sym). c.pop.new.self.items ++ s ∷ []) c.in-Token.is)
-    (other_token c.token_at-next.result c.in-Token.kind _ c.is_kind.result (omega arith) c.is_kind.ensures c.if-not-is_kind.true c.token_at-next.ensures.token)
+    refused_token c.args.rules.now c.args.kinds.now c.loop-symbol.taken (symbols_of c.loop-symbol.pending) (symbols_of c.next.new.self) c.in-Token.kind c.loop-symbol.steps.items c.loop-symbol.invariant.0
+    (c.in-Some.ensures ∙ ap (λ (s : Sym). s ∷ symbols_of c.next.new.self) c.in-Token.is)
+    (other_token c.token_at-in-Token.result c.in-Token.kind _ c.is_kind.result (omega arith) c.is_kind.ensures c.if-not-is_kind.true c.token_at-in-Token.ensures.token)
 
 pub loop-symbol-preserved-in-Token : goal.loop-symbol-preserved-in-Token
-loop-symbol-preserved-in-Token c =
-    take_token c.args.rules.now c.args.kinds.now c.loop-symbol.taken c.loop-symbol.stack.items c.pop.new.self.items c.in-Token.kind c.loop-symbol.steps.items c.loop-symbol.invariant
-    (c.in-Some.ensures.items ∙ ap (λ (s : Sym). c.pop.new.self.items ++ s ∷ []) c.in-Token.is)
-    (token_inside c.token_at-next.result c.in-Token.kind c.is_kind.result _ c.is_kind.ensures c.if-not-is_kind.false c.token_at-next.ensures.within)
-    (this_token c.token_at-next.result c.in-Token.kind _ c.is_kind.result c.is_kind.ensures c.if-not-is_kind.false c.token_at-next.ensures.token)
+loop-symbol-preserved-in-Token c = (
+  take_token c.args.rules.now c.args.kinds.now c.loop-symbol.taken (symbols_of c.loop-symbol.pending) (symbols_of c.next.new.self) c.in-Token.kind c.loop-symbol.steps.items c.loop-symbol.invariant.0
+      (c.in-Some.ensures ∙ ap (λ (s : Sym). s ∷ symbols_of c.next.new.self) c.in-Token.is)
+      (token_inside c.token_at-in-Token.result c.in-Token.kind c.is_kind.result _ c.is_kind.ensures c.if-not-is_kind.false c.token_at-in-Token.ensures.within)
+      (this_token c.token_at-in-Token.result c.in-Token.kind _ c.is_kind.result c.is_kind.ensures c.if-not-is_kind.false c.token_at-in-Token.ensures.token),
+  subst (λ t. IsColumn c.table-table.result.now.columns.items t c.column-column-in-Token.result.now) c.token_at-in-Token-2.ensures.token c.column-column-in-Token.ensures,
+)
 
-pub choice-requires-clause-rule : goal.choice-requires-clause-rule
-choice-requires-clause-rule c =
-    rule_is_there c.args.rules.now c.args.kinds.now c.loop-symbol.taken c.loop-symbol.stack.items c.pop.new.self.items c.in-Rule.rule c.loop-symbol.steps.items c.loop-symbol.invariant
-    (c.in-Some.ensures.items ∙ ap (λ (s : Sym). c.pop.new.self.items ++ s ∷ []) c.in-Rule.is)
+pub returns-in_default-column-clause-refused : goal.returns-in_default-column-clause-refused
+returns-in_default-column-clause-refused c =
+    let table = c.table-table.result.now in
+    refused_rule c.args.rules.now c.args.kinds.now c.loop-symbol.taken (symbols_of c.loop-symbol.pending) (symbols_of c.next.new.self) c.in-Rule.rule (get_or c.args.kinds.now c.loop-symbol.taken end_mark) c.loop-symbol.steps.items c.loop-symbol.invariant.0
+    (c.in-Some.ensures ∙ ap (λ (s : Sym). s ∷ symbols_of c.next.new.self) c.in-Rule.is) refl
+    (no_entry c.args.rules.now table (get_or c.args.kinds.now c.loop-symbol.taken end_mark) c.in-Rule.rule c.loop-symbol.column.now (get_or c.loop-symbol.column.now c.from.result None) c.table-table.ensures c.loop-symbol.invariant.1
+    (ap (λ k. get_or c.loop-symbol.column.now k None) c.from.ensures) (λ e h. c.in_default-column.not-Some e h))
 
-pub returns-in_default-choice-clause-refused : goal.returns-in_default-choice-clause-refused
-returns-in_default-choice-clause-refused c =
-    refused_rule c.args.rules.now c.args.kinds.now c.loop-symbol.taken c.loop-symbol.stack.items c.pop.new.self.items c.in-Rule.rule _ c.loop-symbol.steps.items c.loop-symbol.invariant
-    (c.in-Some.ensures.items ∙ ap (λ (s : Sym). c.pop.new.self.items ++ s ∷ []) c.in-Rule.is)
-    c.token_at-next.ensures.token
-    (λ a h. let x = c.in_default-choice.ensures.only a h in cc)
+pub symbols-requires-clause-order : goal.symbols-requires-clause-order
+symbols-requires-clause-order c =
+    (entry_is c.args.rules.now c.table-table.result.now (get_or c.args.kinds.now c.loop-symbol.taken end_mark) c.in-Rule.rule c.loop-symbol.column.now c.in-Some-column.entry c.table-table.ensures c.loop-symbol.invariant.1
+    (ap (λ k. get_or c.loop-symbol.column.now k None) (sym c.from.ensures) ∙ c.in-Some-column.is)).order
+
+pub symbols-requires-clause-inside : goal.symbols-requires-clause-inside
+symbols-requires-clause-inside c =
+    (entry_is c.args.rules.now c.table-table.result.now (get_or c.args.kinds.now c.loop-symbol.taken end_mark) c.in-Rule.rule c.loop-symbol.column.now c.in-Some-column.entry c.table-table.ensures c.loop-symbol.invariant.1
+    (ap (λ k. get_or c.loop-symbol.column.now k None) (sym c.from.ensures) ∙ c.in-Some-column.is)).inside
 
 pub loop-symbol-preserved : goal.loop-symbol-preserved
 loop-symbol-preserved c =
-    expand_rule c.args.rules.now c.args.kinds.now c.loop-symbol.taken c.loop-symbol.stack.items c.pop.new.self.items _ c.in-Rule.rule c.in-Some-choice.alternative _ c.symbols.result.now c.loop-symbol.steps.items _ c.loop-symbol.invariant
-    (c.in-Some.ensures.items ∙ ap (λ (s : Sym). c.pop.new.self.items ++ s ∷ []) c.in-Rule.is)
-    c.token_at-next.ensures.token
-    c.in-Some-choice.ensures.only
-    c.symbols.ensures
-    (c.in_ok-push_reversed-in-Rule.ensures)
-    (search rules)
+    let table = c.table-table.result.now in
+    let read = ap (λ k. get_or c.loop-symbol.column.now k None) (sym c.from.ensures) ∙ c.in-Some-column.is in
+    let entry = entry_is c.args.rules.now table (get_or c.args.kinds.now c.loop-symbol.taken end_mark) c.in-Rule.rule c.loop-symbol.column.now c.in-Some-column.entry c.table-table.ensures c.loop-symbol.invariant.1 read in (
+      expand_rule c.args.rules.now c.args.kinds.now c.loop-symbol.taken (symbols_of c.loop-symbol.pending) (symbols_of c.next.new.self) (symbols_of c.push-in-Rule.new.self) c.in-Rule.rule c.in-Some-column.entry.step.alternative
+          (get_or c.args.kinds.now c.loop-symbol.taken end_mark) c.symbols.result.now c.loop-symbol.steps.items c.push.new.self.items c.loop-symbol.invariant.0
+          (c.in-Some.ensures ∙ ap (λ (s : Sym). s ∷ symbols_of c.next.new.self) c.in-Rule.is) refl
+          (λ b chosen. same_alternative c.args.rules.now table (get_or c.args.kinds.now c.loop-symbol.taken end_mark) c.in-Rule.rule b c.loop-symbol.column.now c.in-Some-column.entry c.table-table.ensures c.loop-symbol.invariant.1 (sym read) chosen)
+          (entry.is ∙ ap Some (sym c.symbols.ensures)) c.in_ok-push-in-Rule-2.ensures
+          (c.in_ok-push-in-Rule.ensures.items ∙ ap (λ (s : Step). c.loop-symbol.steps.items ++ s ∷ []) entry.step_is),
+      c.loop-symbol.invariant.1,
+    )
 
 pub returns-then-taken-kinds-clause-refused : goal.returns-then-taken-kinds-clause-refused
 returns-then-taken-kinds-clause-refused c =
     let t = c.type_inv.kinds c.loop-symbol.taken in
-    refused_end c.args.rules.now c.args.kinds.now c.loop-symbol.taken c.loop-symbol.stack.items c.loop-symbol.steps.items c.loop-symbol.invariant (search rules) (omega (arith, get_or_default c.args.kinds.now c.loop-symbol.taken end_mark 0 c.if-taken-kinds.true, t))
+    refused_end c.args.rules.now c.args.kinds.now c.loop-symbol.taken (symbols_of c.loop-symbol.pending) c.loop-symbol.steps.items c.loop-symbol.invariant.0 c.in_default.ensures (omega (arith, get_or_default c.args.kinds.now c.loop-symbol.taken end_mark 0 c.if-taken-kinds.true, t))
 
 pub returns-clause-tree : goal.returns-clause-tree
 returns-clause-tree c =
-    let d = all_read c.args.rules.now c.args.kinds.now c.loop-symbol.taken c.loop-symbol.stack.items c.loop-symbol.steps.items c.loop-symbol.invariant (search rules) (omega arith) in
+    let d = all_read c.args.rules.now c.args.kinds.now c.loop-symbol.taken (symbols_of c.loop-symbol.pending) c.loop-symbol.steps.items c.loop-symbol.invariant.0 c.in_default.ensures (omega arith) in
     subst (IsTreeOf c.args.rules.now c.args.kinds.now) (sym c.from_vec.ensures) d.0
 
 pub returns-clause-only : goal.returns-clause-only
 returns-clause-only c =
-    let d = all_read c.args.rules.now c.args.kinds.now c.loop-symbol.taken c.loop-symbol.stack.items c.loop-symbol.steps.items c.loop-symbol.invariant (search rules) (omega arith) in
+    let d = all_read c.args.rules.now c.args.kinds.now c.loop-symbol.taken (symbols_of c.loop-symbol.pending) c.loop-symbol.steps.items c.loop-symbol.invariant.0 c.in_default.ensures (omega arith) in
     λ other t. d.1 other t ∙ sym c.from_vec.ensures

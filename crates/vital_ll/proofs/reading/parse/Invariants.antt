@@ -1,9 +1,13 @@
-use Rattle.std.proofs.Common.{◌+◌, ◌-◌, ◌^◌, length, vec_len}
+use Rattle.std.proofs.Common.{◌+◌, ◌-◌, ◌^◌, length, vec_len, get_or}
+use Rattle.vital_ll.specs.Pending.{symbols_of}
+use Rattle.vital_ll.specs.Sentence.{end_mark}
+use Rattle.vital_ll.specs.Table.{IsColumn}
 use Rattle.vital_ll.proofs.Parsing.{IsParsing}
 use Rattle.vital_ll.proofs.reading.parse.Given as goal
 
 abbrev pub invariant-loop-symbol : goal.invariant-loop-symbol
-invariant-loop-symbol l = IsParsing l.rules l.kinds l.taken l.stack.items l.steps.items
+invariant-loop-symbol l =
+    IsParsing l.rules l.kinds l.taken (symbols_of l.pending) l.steps.items × IsColumn l.table.columns.items (get_or l.kinds l.taken end_mark) l.column
 
 -- each turn takes a token or writes a step, of which a list has fewer than 2 ^ 64
 abbrev pub decreases-loop-symbol : goal.decreases-loop-symbol

@@ -1,6 +1,0 @@
-use Rattle.std.proofs.Common.{length}
-use Rattle.vital_ll.proofs.Entries.{AreTableRows}
-use Rattle.vital_ll.proofs.blocks.Analysis.table.Given as goal
-
-abbrev pub invariant-loop-rule : goal.invariant-loop-rule
-invariant-loop-rule l = AreTableRows l.self.rules.now (length l.blocks) l.rule l.table.items
