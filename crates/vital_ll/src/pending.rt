@@ -1,55 +1,46 @@
-ghost use Rattle.std.specs.Prelude.{◌≡◌, ◌∷◌, ◌++◌, [], MatchOption, OnOk};
-ghost use Rattle.vital_ll.specs.Pending.{symbols_of};
+ghost use Rattle.std.specs.Prelude.{◌≡◌, ◌∷◌, ◌++◌, [], All, MatchOption, OnOk};
+ghost use Rattle.vital_ll.specs.Pending.{IsFilled, symbols_of};
 
 use crate::grammar::Sym;
-use std::alloc::{AllocError, Global};
+use std::alloc::AllocError;
 
-/// The symbols that are left to read: those of the alternative that is being read, then those that stand on
-/// the stack, the topmost first.
-#[derive(Drop)]
-pub(crate) struct Pending<'a> {
-    pub(crate) left: &'a [Sym],
-    pub(crate) stack: Vec<&'a [Sym]>,
+/// Takes the next symbol: of those that are left of the alternative that is being read, then of those on the stack, the
+/// topmost first.
+pub(crate) fn next<'a>(left: &mut &'a [Sym], stack: &mut Vec<&'a [Sym]>) -> Option<Sym>
+    requires filled { All IsFilled stack.old.items }
+    ensures filled { All IsFilled stack.new.items }
+    ensures taken { MatchOption result (symbols_of left.old.now stack.old.items ≡ [])
+        (λ symbol. symbols_of left.old.now stack.old.items ≡ symbol ∷ symbols_of left.new.now stack.new.items) }
+{
+    if left.is_empty() {
+        let Some(symbols) = stack.pop() else {
+            return None;
+        };
+        *left = &symbols[1..];
+        return Some(symbols[0]);
+    }
+    let symbol = left[0];
+    *left = &left[1..];
+    Some(symbol)
 }
 
-impl<'a> Pending<'a> {
-    /// These symbols and no more.
-    pub(crate) fn new(alloc: Global, symbols: &'a [Sym]) -> Pending<'a>
-        ensures { symbols_of result ≡ symbols.now }
-    {
-        Pending {
-            left: symbols,
-            stack: Vec::new(alloc),
-        }
+/// Puts symbols before those that are left.
+pub(crate) fn push<'a>(
+    left: &mut &'a [Sym],
+    stack: &mut Vec<&'a [Sym]>,
+    symbols: &'a [Sym],
+) -> Result<(), AllocError>
+    requires filled { All IsFilled stack.old.items }
+    ensures filled { OnOk result (All IsFilled stack.new.items) }
+    ensures pushed { OnOk result
+        (symbols_of left.new.now stack.new.items ≡ symbols.now ++ symbols_of left.old.now stack.old.items) }
+{
+    if symbols.is_empty() {
+        return Ok(());
     }
-
-    /// Takes the next symbol.
-    pub(crate) fn next(&mut self) -> Option<Sym>
-        ensures { MatchOption result (symbols_of self.old ≡ [])
-            (λ symbol. symbols_of self.old ≡ symbol ∷ symbols_of self.new) }
-    {
-        while self.left.is_empty() {
-            match self.stack.pop() {
-                None => return None,
-                Some(symbols) => self.left = symbols,
-            }
-        }
-        let symbol = self.left[0];
-        self.left = &self.left[1..];
-        Some(symbol)
+    if !left.is_empty() {
+        stack.push(*left)?;
     }
-
-    /// Puts symbols before those that are left.
-    pub(crate) fn push(&mut self, symbols: &'a [Sym]) -> Result<(), AllocError>
-        ensures { OnOk result (symbols_of self.new ≡ symbols.now ++ symbols_of self.old) }
-    {
-        if symbols.is_empty() {
-            return Ok(());
-        }
-        if !self.left.is_empty() {
-            self.stack.push(self.left)?;
-        }
-        self.left = symbols;
-        Ok(())
-    }
+    *left = symbols;
+    Ok(())
 }

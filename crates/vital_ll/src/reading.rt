@@ -7,7 +7,7 @@ ghost use Rattle.vital_ll.specs.Refusal.{IsRefusal};
 
 use crate::derivation::Tree;
 use crate::grammar::Sym;
-use crate::pending::Pending;
+use crate::pending::{next, push};
 use crate::prediction::Rules;
 use std::alloc::{AllocError, AllocFailed, Global};
 
@@ -75,11 +75,12 @@ pub fn parse(alloc: Global, rules: &Rules, kinds: &[u16]) -> Result<Tree, ParseE
 {
     let table = rules.table();
     let first = [Sym::Rule(0)];
-    let mut pending = Pending::new(alloc, &first);
+    let mut left = first.as_slice();
+    let mut stack = Vec::new(alloc);
     let mut steps = Vec::new(alloc);
     let mut taken = 0usize;
     let mut column = table.column(token_at(kinds, 0));
-    while let Some(symbol) = pending.next() {
+    while let Some(symbol) = next(&mut left, &mut stack) {
         match symbol {
             Sym::Token(kind) => {
                 if !is_kind(token_at(kinds, taken), kind) {
@@ -95,7 +96,7 @@ pub fn parse(alloc: Global, rules: &Rules, kinds: &[u16]) -> Result<Tree, ParseE
                     return Err(ParseError::Refused { token });
                 };
                 steps.push(entry.step)?;
-                pending.push(table.symbols(entry))?;
+                push(&mut left, &mut stack, table.symbols(entry))?;
             }
         }
     }

@@ -1,8 +1,9 @@
 use Rattle.std.proofs.Common.{◌++◌, ◌∷◌, [], get_or, Some, None, refl, sym, ◌∙◌, ap, subst, arith, rules}
 use Rattle.std.proofs.lemmas.List.{get_or_default}
+use Rattle.std.proofs.lemmas.List.Elements.{All-nil, All-same}
 use Rattle.vital_ll.specs.declared.grammar.Sym.{Sym}
 use Rattle.vital_ll.specs.declared.derivation.Step.{Step}
-use Rattle.vital_ll.specs.Pending.{symbols_of}
+use Rattle.vital_ll.specs.Pending.{IsFilled, symbols_of}
 use Rattle.vital_ll.specs.Sentence.{end_mark, IsTreeOf}
 use Rattle.vital_ll.specs.Table.{IsColumn}
 use Rattle.vital_ll.proofs.Columns.{entry_is, no_entry, same_alternative}
@@ -11,30 +12,32 @@ use Rattle.vital_ll.proofs.reading.parse.Goals as goal
 
 pub loop-symbol-init : goal.loop-symbol-init
 loop-symbol-init c = (
-  parsing_start c.args.rules.now c.args.kinds.now (symbols_of c.new-pending.result) c.new-steps.result.items c.table-table.ensures.well_formed (search rules) c.new-steps.ensures.items,
+  parsing_start c.args.rules.now c.args.kinds.now (symbols_of c.as_slice-left.result.now c.new-stack.result.items) c.new-steps.result.items c.table-table.ensures.well_formed (search rules) c.new-steps.ensures.items,
   subst (λ t. IsColumn c.table-table.result.now.columns.items t c.column-column.result.now) c.token_at.ensures.token c.column-column.ensures,
+  All-same IsFilled c.new-stack.result.items [] c.new-stack.ensures.items (All-nil IsFilled),
 )
 
 pub returns-then-not-is_kind-clause-refused : goal.returns-then-not-is_kind-clause-refused
 returns-then-not-is_kind-clause-refused c =
-    refused_token c.args.rules.now c.args.kinds.now c.loop-symbol.taken (symbols_of c.loop-symbol.pending) (symbols_of c.next.new.self) c.in-Token.kind c.loop-symbol.steps.items c.loop-symbol.invariant.0
-    (c.in-Some.ensures ∙ ap (λ (s : Sym). s ∷ symbols_of c.next.new.self) c.in-Token.is)
+    refused_token c.args.rules.now c.args.kinds.now c.loop-symbol.taken (symbols_of c.loop-symbol.left.now c.loop-symbol.stack.items) (symbols_of c.next.new.left.now c.next.new.stack.items) c.in-Token.kind c.loop-symbol.steps.items c.loop-symbol.invariant.0
+    (c.in-Some.ensures.taken ∙ ap (λ (s : Sym). s ∷ symbols_of c.next.new.left.now c.next.new.stack.items) c.in-Token.is)
     (other_token c.token_at-in-Token.result c.in-Token.kind _ c.is_kind.result (omega arith) c.is_kind.ensures c.if-not-is_kind.true c.token_at-in-Token.ensures.token)
 
 pub loop-symbol-preserved-in-Token : goal.loop-symbol-preserved-in-Token
 loop-symbol-preserved-in-Token c = (
-  take_token c.args.rules.now c.args.kinds.now c.loop-symbol.taken (symbols_of c.loop-symbol.pending) (symbols_of c.next.new.self) c.in-Token.kind c.loop-symbol.steps.items c.loop-symbol.invariant.0
-      (c.in-Some.ensures ∙ ap (λ (s : Sym). s ∷ symbols_of c.next.new.self) c.in-Token.is)
+  take_token c.args.rules.now c.args.kinds.now c.loop-symbol.taken (symbols_of c.loop-symbol.left.now c.loop-symbol.stack.items) (symbols_of c.next.new.left.now c.next.new.stack.items) c.in-Token.kind c.loop-symbol.steps.items c.loop-symbol.invariant.0
+      (c.in-Some.ensures.taken ∙ ap (λ (s : Sym). s ∷ symbols_of c.next.new.left.now c.next.new.stack.items) c.in-Token.is)
       (token_inside c.token_at-in-Token.result c.in-Token.kind c.is_kind.result _ c.is_kind.ensures c.if-not-is_kind.false c.token_at-in-Token.ensures.within)
       (this_token c.token_at-in-Token.result c.in-Token.kind _ c.is_kind.result c.is_kind.ensures c.if-not-is_kind.false c.token_at-in-Token.ensures.token),
   subst (λ t. IsColumn c.table-table.result.now.columns.items t c.column-column-in-Token.result.now) c.token_at-in-Token-2.ensures.token c.column-column-in-Token.ensures,
+  c.in-Some.ensures.filled,
 )
 
 pub returns-in_default-column-clause-refused : goal.returns-in_default-column-clause-refused
 returns-in_default-column-clause-refused c =
     let table = c.table-table.result.now in
-    refused_rule c.args.rules.now c.args.kinds.now c.loop-symbol.taken (symbols_of c.loop-symbol.pending) (symbols_of c.next.new.self) c.in-Rule.rule (get_or c.args.kinds.now c.loop-symbol.taken end_mark) c.loop-symbol.steps.items c.loop-symbol.invariant.0
-    (c.in-Some.ensures ∙ ap (λ (s : Sym). s ∷ symbols_of c.next.new.self) c.in-Rule.is) refl
+    refused_rule c.args.rules.now c.args.kinds.now c.loop-symbol.taken (symbols_of c.loop-symbol.left.now c.loop-symbol.stack.items) (symbols_of c.next.new.left.now c.next.new.stack.items) c.in-Rule.rule (get_or c.args.kinds.now c.loop-symbol.taken end_mark) c.loop-symbol.steps.items c.loop-symbol.invariant.0
+    (c.in-Some.ensures.taken ∙ ap (λ (s : Sym). s ∷ symbols_of c.next.new.left.now c.next.new.stack.items) c.in-Rule.is) refl
     (no_entry c.args.rules.now table (get_or c.args.kinds.now c.loop-symbol.taken end_mark) c.in-Rule.rule c.loop-symbol.column.now (get_or c.loop-symbol.column.now c.from.result None) c.table-table.ensures c.loop-symbol.invariant.1
     (ap (λ k. get_or c.loop-symbol.column.now k None) c.from.ensures) (λ e h. c.in_default-column.not-Some e h))
 
@@ -53,26 +56,27 @@ loop-symbol-preserved c =
     let table = c.table-table.result.now in
     let read = ap (λ k. get_or c.loop-symbol.column.now k None) (sym c.from.ensures) ∙ c.in-Some-column.is in
     let entry = entry_is c.args.rules.now table (get_or c.args.kinds.now c.loop-symbol.taken end_mark) c.in-Rule.rule c.loop-symbol.column.now c.in-Some-column.entry c.table-table.ensures c.loop-symbol.invariant.1 read in (
-      expand_rule c.args.rules.now c.args.kinds.now c.loop-symbol.taken (symbols_of c.loop-symbol.pending) (symbols_of c.next.new.self) (symbols_of c.push-in-Rule.new.self) c.in-Rule.rule c.in-Some-column.entry.step.alternative
+      expand_rule c.args.rules.now c.args.kinds.now c.loop-symbol.taken (symbols_of c.loop-symbol.left.now c.loop-symbol.stack.items) (symbols_of c.next.new.left.now c.next.new.stack.items) (symbols_of c.push-in-Rule.new.left.now c.push-in-Rule.new.stack.items) c.in-Rule.rule c.in-Some-column.entry.step.alternative
           (get_or c.args.kinds.now c.loop-symbol.taken end_mark) c.symbols.result.now c.loop-symbol.steps.items c.push.new.self.items c.loop-symbol.invariant.0
-          (c.in-Some.ensures ∙ ap (λ (s : Sym). s ∷ symbols_of c.next.new.self) c.in-Rule.is) refl
+          (c.in-Some.ensures.taken ∙ ap (λ (s : Sym). s ∷ symbols_of c.next.new.left.now c.next.new.stack.items) c.in-Rule.is) refl
           (λ b chosen. same_alternative c.args.rules.now table (get_or c.args.kinds.now c.loop-symbol.taken end_mark) c.in-Rule.rule b c.loop-symbol.column.now c.in-Some-column.entry c.table-table.ensures c.loop-symbol.invariant.1 (sym read) chosen)
-          (entry.is ∙ ap Some (sym c.symbols.ensures)) c.in_ok-push-in-Rule-2.ensures
+          (entry.is ∙ ap Some (sym c.symbols.ensures)) c.in_ok-push-in-Rule-2.ensures.pushed
           (c.in_ok-push-in-Rule.ensures.items ∙ ap (λ (s : Step). c.loop-symbol.steps.items ++ s ∷ []) entry.step_is),
       c.loop-symbol.invariant.1,
+      c.in_ok-push-in-Rule-2.ensures.filled,
     )
 
 pub returns-then-taken-kinds-clause-refused : goal.returns-then-taken-kinds-clause-refused
 returns-then-taken-kinds-clause-refused c =
     let t = c.type_inv.kinds c.loop-symbol.taken in
-    refused_end c.args.rules.now c.args.kinds.now c.loop-symbol.taken (symbols_of c.loop-symbol.pending) c.loop-symbol.steps.items c.loop-symbol.invariant.0 c.in_default.ensures (omega (arith, get_or_default c.args.kinds.now c.loop-symbol.taken end_mark 0 c.if-taken-kinds.true, t))
+    refused_end c.args.rules.now c.args.kinds.now c.loop-symbol.taken (symbols_of c.loop-symbol.left.now c.loop-symbol.stack.items) c.loop-symbol.steps.items c.loop-symbol.invariant.0 c.in_default.ensures.taken (omega (arith, get_or_default c.args.kinds.now c.loop-symbol.taken end_mark 0 c.if-taken-kinds.true, t))
 
 pub returns-clause-tree : goal.returns-clause-tree
 returns-clause-tree c =
-    let d = all_read c.args.rules.now c.args.kinds.now c.loop-symbol.taken (symbols_of c.loop-symbol.pending) c.loop-symbol.steps.items c.loop-symbol.invariant.0 c.in_default.ensures (omega arith) in
+    let d = all_read c.args.rules.now c.args.kinds.now c.loop-symbol.taken (symbols_of c.loop-symbol.left.now c.loop-symbol.stack.items) c.loop-symbol.steps.items c.loop-symbol.invariant.0 c.in_default.ensures.taken (omega arith) in
     subst (IsTreeOf c.args.rules.now c.args.kinds.now) (sym c.from_vec.ensures) d.0
 
 pub returns-clause-only : goal.returns-clause-only
 returns-clause-only c =
-    let d = all_read c.args.rules.now c.args.kinds.now c.loop-symbol.taken (symbols_of c.loop-symbol.pending) c.loop-symbol.steps.items c.loop-symbol.invariant.0 c.in_default.ensures (omega arith) in
+    let d = all_read c.args.rules.now c.args.kinds.now c.loop-symbol.taken (symbols_of c.loop-symbol.left.now c.loop-symbol.stack.items) c.loop-symbol.steps.items c.loop-symbol.invariant.0 c.in_default.ensures.taken (omega arith) in
     λ other t. d.1 other t ∙ sym c.from_vec.ensures

@@ -1,5 +1,6 @@
 use Rattle.std.proofs.Common.{◌+◌, ◌-◌, ◌^◌, length, vec_len, get_or}
-use Rattle.vital_ll.specs.Pending.{symbols_of}
+use Rattle.std.specs.List.{All}
+use Rattle.vital_ll.specs.Pending.{IsFilled, symbols_of}
 use Rattle.vital_ll.specs.Sentence.{end_mark}
 use Rattle.vital_ll.specs.Table.{IsColumn}
 use Rattle.vital_ll.proofs.Parsing.{IsParsing}
@@ -7,7 +8,7 @@ use Rattle.vital_ll.proofs.reading.parse.Given as goal
 
 abbrev pub invariant-loop-symbol : goal.invariant-loop-symbol
 invariant-loop-symbol l =
-    IsParsing l.rules l.kinds l.taken (symbols_of l.pending) l.steps.items × IsColumn l.table.columns.items (get_or l.kinds l.taken end_mark) l.column
+    IsParsing l.rules l.kinds l.taken (symbols_of l.left l.stack.items) l.steps.items × IsColumn l.table.columns.items (get_or l.kinds l.taken end_mark) l.column × All IsFilled l.stack.items
 
 -- each turn takes a token or writes a step, of which a list has fewer than 2 ^ 64
 abbrev pub decreases-loop-symbol : goal.decreases-loop-symbol
