@@ -1,7 +1,7 @@
 -- The columns of the table, and where the symbols of alternatives stand.
-use Rattle.std.proofs.Common.{◌≡◌, ℕ, zero, suc, ◌+◌, ◌-◌, ◌<◌, ◌≤◌, Bool, cond, List, [], ◌∷◌, ◌++◌, length, get_or, take, drop, Option, Some, None, is_some, unwrap_or, slice_get, slice_range, refl, sym, ap, ◌∙◌, subst, append_assoc, length-drop, arith, inl, inr}
+use Rattle.std.proofs.Common.{◌≡◌, ℕ, zero, suc, ◌+◌, ◌-◌, ◌<◌, ◌≤◌, Bool, cond, List, [], ◌∷◌, ◌++◌, length, get_or, set, replicate, take, drop, Option, Some, None, is_some, unwrap_or, slice_get, slice_range, refl, sym, ap, ◌∙◌, subst, append_assoc, length-drop, arith, inl, inr}
 use Rattle.std.specs.Option.{ForSome}
-use Rattle.std.proofs.Math.Seq.{drop-append_seam}
+use Rattle.std.proofs.Math.Seq.{drop-append_seam, set-append_seam}
 use Rattle.std.proofs.lemmas.Bool.{cases_eq, cases_lt, ne_eqb}
 use Rattle.std.proofs.lemmas.List.{take_all, take-append-le, drop-append-le, length-append, append-nil, get_or_append_left, get_or_past}
 use Rattle.std.proofs.lemmas.Option.{slice_get-get_or}
@@ -114,6 +114,37 @@ column_length rows entries bit zero = refl
 column_length rows entries bit (suc n) =
     let ih = column_length rows entries bit n in
     length-append (column_of rows entries bit n) (entry_with (get_or entries n []) (entry_at (get_or rows n []) bit) ∷ []) ∙ (let f : length (column_of rows entries bit n) + 1 ≡ suc n = omega arith in f)
+
+-- one more entry of a column that has none after the first n
+with_next : (rows : List (List (List (Option ℕ)))) (entries : List (List Entry)) (bit n : ℕ) (rest : List (Option Entry)) →
+    column_of rows entries bit n ++ entry_with (get_or entries n []) (entry_at (get_or rows n []) bit) ∷ rest ≡ column_of rows entries bit (n + 1) ++ rest
+with_next rows entries bit n rest =
+    let k : suc n ≡ n + 1 = omega arith in
+    sym (append_assoc (column_of rows entries bit n) (entry_with (get_or entries n []) (entry_at (get_or rows n []) bit) ∷ []) rest) ∙ ap (λ (i : ℕ). column_of rows entries bit i ++ rest) k
+
+before_next : (rows : List (List (List (Option ℕ)))) (entries : List (List Entry)) (bit n m : ℕ) (old : List (Option Entry)) → n < m → old ≡ column_of rows entries bit n ++ replicate (m - n) None →
+    old ≡ column_of rows entries bit n ++ None ∷ replicate (m - (n + 1)) None
+before_next rows entries bit n m old inside is =
+    let k : m - n ≡ suc (m - (n + 1)) = omega arith in is ∙ ap (λ (i : ℕ). column_of rows entries bit n ++ replicate i None) k
+
+-- where it is none
+pub next_is_none : (rows : List (List (List (Option ℕ)))) (entries : List (List Entry)) (bit n m : ℕ) (old : List (Option Entry)) → n < m → old ≡ column_of rows entries bit n ++ replicate (m - n) None →
+    entry_with (get_or entries n []) (entry_at (get_or rows n []) bit) ≡ None → old ≡ column_of rows entries bit (n + 1) ++ replicate (m - (n + 1)) None
+next_is_none rows entries bit n m old inside is none =
+    before_next rows entries bit n m old inside is
+    ∙ ap (λ (x : Option Entry). column_of rows entries bit n ++ x ∷ replicate (m - (n + 1)) None) (sym none)
+    ∙ with_next rows entries bit n (replicate (m - (n + 1)) None)
+
+-- and where it is written
+pub next_is_set : (rows : List (List (List (Option ℕ)))) (entries : List (List Entry)) (bit n m : ℕ) (old : List (Option Entry)) (x : Option Entry) → n < m →
+    old ≡ column_of rows entries bit n ++ replicate (m - n) None →
+    entry_with (get_or entries n []) (entry_at (get_or rows n []) bit) ≡ x → set old n x ≡ column_of rows entries bit (n + 1) ++ replicate (m - (n + 1)) None
+next_is_set rows entries bit n m old x inside is entry_is =
+    ap (λ (l : List (Option Entry)). set l n x) (before_next rows entries bit n m old inside is)
+    ∙ ap (λ (i : ℕ). set (column_of rows entries bit n ++ None ∷ replicate (m - (n + 1)) None) i x) (sym (column_length rows entries bit n))
+    ∙ set-append_seam (column_of rows entries bit n) None (replicate (m - (n + 1)) None) x
+    ∙ ap (λ (y : Option Entry). column_of rows entries bit n ++ y ∷ replicate (m - (n + 1)) None) (sym entry_is)
+    ∙ with_next rows entries bit n (replicate (m - (n + 1)) None)
 
 column_entry : (rows : List (List (List (Option ℕ)))) (entries : List (List Entry)) (bit n r : ℕ) → r < n → get_or (column_of rows entries bit n) r None ≡ entry_with (get_or entries r []) (entry_at (get_or rows r []) bit)
 column_entry rows entries bit zero r h = absurd (omega arith)

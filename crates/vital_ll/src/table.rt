@@ -1,4 +1,4 @@
-ghost use Rattle.std.specs.Prelude.{◌≡◌, ◌<◌, ◌≤◌, ◌++◌, length, slice_range, unwrap_or, IfOk, OnOk, OnErr};
+ghost use Rattle.std.specs.Prelude.{◌≡◌, ◌<◌, ◌≤◌, ◌++◌, length, replicate, None, slice_range, unwrap_or, IfOk, OnOk, OnErr};
 ghost use Rattle.std.specs.Option.{ForSome};
 ghost use Rattle.vital_ll.specs.Choice.{IsWellFormed};
 ghost use Rattle.vital_ll.specs.Sentence.{end_mark};
@@ -123,20 +123,25 @@ impl Entries {
     }
 }
 
-/// The column of the token at this bit.
+/// The column of the token at this bit. `none` is the column of a token that decides for nothing.
 fn make_column(
     alloc: Global,
     rows: &[Rows],
     entries: &[Entries],
+    none: &[Option<Entry>],
     bit: usize,
 ) -> Result<Column, AllocError>
     requires size { length entries.now ≡ length rows.now }
     requires there { AreThere rows.now entries.now }
+    requires none { none.now ≡ replicate (length rows.now) None }
     ensures { IfOk result (λ column. column ≡ column_of rows.now entries.now bit (length rows.now)) }
 {
-    let mut column = Vec::with_capacity(alloc, rows.len())?;
+    let mut column = Vec::from_slice(alloc, none)?;
     for rule in 0..rows.len() {
-        column.push(entries[rule].at(rows[rule].at(bit)))?;
+        // Most tokens decide for nothing at most rules.
+        if let Some(entry) = entries[rule].at(rows[rule].at(bit)) {
+            column[rule] = Some(entry);
+        }
     }
     Ok(Column { entries: column })
 }
@@ -155,9 +160,10 @@ impl Table {
         ensures { IfOk result (IsTable rules.now) }
     {
         let all = all_entries(alloc, rules)?;
+        let none = vec![in alloc; None; rows.len()]?;
         let mut columns = Vec::with_capacity(alloc, bits)?;
         for bit in 0..bits {
-            columns.push(make_column(alloc, rows, &all.entries, bit)?)?;
+            columns.push(make_column(alloc, rows, &all.entries, &none, bit)?)?;
         }
         Ok(Table {
             columns,
