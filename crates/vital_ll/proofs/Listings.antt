@@ -1,6 +1,6 @@
 -- The lists of alternatives and of symbols.
 use Rattle.std.proofs.Common.{◌≡◌, ℕ, zero, suc, ◌+◌, ◌<◌, ◌≤◌, List, [], ◌∷◌, ◌++◌, length, get_or, take, Option, Some, None, IsSome, is_some, All, Contains, slice_get, refl, sym, ap, ◌∙◌, subst, arith, inl, inr}
-use Rattle.std.proofs.lemmas.List.Elements.{All-nil, All-push, All-append, Contains-push, Contains-append_left, Contains-append_right, Contains-append_cases, Contains-push_cases, at_from_Contains}
+use Rattle.std.proofs.lemmas.List.Elements.{All-nil, All-push, All-append, Contains-push, Contains-append_left, Contains-append_right, Contains-append_cases, Contains-push_cases, at_from_Contains, All-contains}
 use Rattle.std.proofs.lemmas.List.{take_more}
 use Rattle.std.proofs.lemmas.Option.{slice_get-get_or, slice_get_within, get_or_from_slice_get}
 use Rattle.std.proofs.lemmas.Bool.{cases_eq}
@@ -79,6 +79,45 @@ pub steps_done : (g : Grammar) (n : ℕ) (steps : List Step) → length g ≤ n 
 steps_done g n steps past below = record {
   there = below.there;
   complete = λ r a h. below.complete r a (let b = bounds_of g r a h in omega arith) h;
+}
+
+-- the alternatives of the rules from n on
+pub record StepsFrom (g : Grammar) (n : ℕ) (steps : List Step) : Type 0 where
+  pub there : All (IsStepOf g) steps
+  pub complete : (r a : ℕ) → n ≤ r → IsSome (alternative_of g r a) → Contains steps (step r a)
+
+pub steps_from_end : (g : Grammar) (n : ℕ) (steps : List Step) → n ≡ length g → steps ≡ [] → StepsFrom g n steps
+steps_from_end g n steps end empty = subst (λ (l : List Step). StepsFrom g n l) (sym empty) (record {
+  there = All-nil (IsStepOf g);
+  complete = λ r a past k. absurd (let b = bounds_of g r a k in omega arith);
+})
+
+pub steps_before : (g : Grammar) (n m count : ℕ) (old new : List Step) → m ≡ n + 1 → n < length g → count ≡ length (get_or g n []) → new ≡ old ++ steps_of n count → StepsFrom g m old → StepsFrom g n new
+steps_before g n m count old new next inside count_is new_is from =
+    subst (λ (l : List Step). StepsFrom g n l) (sym new_is) (record {
+      there = All-append (IsStepOf g) old (steps_of n count) from.there (steps_all (IsStepOf g) n count (λ a h. there_at g n a inside (omega arith)));
+      complete = λ r a h k.
+          elim (cases_eq r n) [
+            | inl e ↦
+                let b = bounds_of g r a k in
+                let low : a < count = let f : length (get_or g r []) ≡ length (get_or g n []) = ap (λ (x : ℕ). length (get_or g x [])) e in omega arith in
+                Contains-append_right old (steps_of n count) (step r a) (subst (λ (x : ℕ). Contains (steps_of n count) (step x a)) (sym e) (steps_contain n count a low))
+            | inr d ↦ Contains-append_left old (steps_of n count) (step r a) (from.complete r a (omega arith) k)
+          ];
+    })
+
+pub steps_from_first : (g : Grammar) (n : ℕ) (steps : List Step) → n ≡ 0 → StepsFrom g n steps → ListsSteps g steps
+steps_from_first g n steps none from = record {
+  there = from.there;
+  complete = λ r a h. from.complete r a (omega arith) h;
+}
+
+-- the symbols of the alternatives in one order are those of the alternatives in any other
+pub places_in_any_order : (g : Grammar) (steps other : List Step) (places : List Place) → ListsSteps g steps → ListsSteps g other → ListsPlaces g steps places → ListsPlaces g other places
+places_in_any_order g steps other places lists others symbols = record {
+  there = symbols.there;
+  complete = λ s k chosen in_other is low.
+      symbols.complete s k chosen (lists.complete s.rule s.alternative (All-contains (IsStepOf g) other s others.there in_other)) is low;
 }
 
 no_element : (q : Step) → Contains [] q → ⊥

@@ -39,6 +39,22 @@ pub(crate) fn steps(alloc: Global, rules: &RuleList) -> Result<Vec<Step>, AllocE
     Ok(steps)
 }
 
+/// Each alternative of each rule, those of the last rule first: what is found of a rule mostly rests on rules that come
+/// after it.
+pub(crate) fn steps_backward(alloc: Global, rules: &RuleList) -> Result<Vec<Step>, AllocError>
+    requires { IsWellFormed rules.now }
+    ensures { IfOk result (λ steps. ListsSteps rules.now steps.items) }
+{
+    let mut steps = Vec::new(alloc);
+    let mut rule = rules.len();
+    while rule > 0 {
+        rule -= 1;
+        let count = rules.alternative_count(rule) as u16;
+        push_steps(&mut steps, rule as u16, count)?;
+    }
+    Ok(steps)
+}
+
 /// Appends the first `count` symbols of an alternative.
 fn push_places(places: &mut Vec<Place>, step: Step, count: usize) -> Result<(), AllocError>
     ensures { OnOk result (places.new.items ≡ places.old.items ++ places_of step count) }

@@ -8,7 +8,7 @@ ghost use Rattle.vital_ll.specs.Table.{HasRows, IsTable};
 
 use crate::blocks::{Analysis, Block};
 use crate::grammar::RuleList;
-use crate::listing::{places, steps};
+use crate::listing::{places, steps, steps_backward};
 use crate::rows::Rows;
 use crate::sets::{nullable_masks, reached_masks};
 use crate::table::Table;
@@ -92,11 +92,12 @@ impl Rules {
     {
         let steps = steps(alloc, rules)?;
         let places = places(alloc, rules, &steps)?;
-        let nullable = nullable_masks(alloc, rules, &steps)?;
+        let backward = steps_backward(alloc, rules)?;
+        let nullable = nullable_masks(alloc, rules, &backward)?;
         let reached = reached_masks(alloc, rules, &steps, &places)?;
         let analysis = Analysis {
             rules,
-            steps: &steps,
+            steps: &backward,
             places: &places,
             nullable: &nullable,
             reached: &reached,
