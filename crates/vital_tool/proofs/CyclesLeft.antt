@@ -10,9 +10,9 @@ use Rattle.vital_tool.specs.Driver.{Driver, AllRise, advance, pending_count}
 use Rattle.vital_tool.specs.Run.{cycles, due, events}
 use Rattle.vital_tool.specs.Play.{port_signals}
 use Rattle.vital_tool.specs.PlayText.{cycle_text}
-use Rattle.vital_tool.specs.PlayAnswer.{text_of_event, unasked}
+use Rattle.vital_tool.specs.Stimuli.{text_of_event, unasked}
 use Rattle.vital_tool.specs.Writes.{SinkState, ready, WritesAll}
-use Rattle.vital_tool.proofs.Cycles.{state_of, cycles_step, cycles_end, due_next}
+use Rattle.vital_tool.proofs.CycleStates.{state_of, cycles_step, cycles_end, due_next}
 use Rattle.vital_tool.proofs.Least.{all_rise_next, all_rise_after, all_rise_lower, next_is_above, fewer_pending}
 use Rattle.vital_tool.proofs.Parts.{Part, part_goes_on, part_ends}
 

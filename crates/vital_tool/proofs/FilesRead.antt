@@ -1,29 +1,70 @@
 -- Files that are read one after the other.
 use Rattle.std.proofs.Common.{◌≡◌, ℕ, ◌+◌, ◌-◌, ◌<◌, ◌≤◌, List, [], ◌∷◌, ◌++◌, length, drop, get_or, Result, Ok, Err, refl, sym, ap, subst, ◌∙◌, append_assoc, arith}
-use Rattle.std.proofs.lemmas.List.{append-nil, drop_more, drop_all}
+use Rattle.std.proofs.lemmas.List.{drop_more}
 use Rattle.vital_lex.specs.Outcome.{IsOutcome}
 use Rattle.vital_lex.specs.declared.faults.TextFault.{TextFault}
 use Rattle.vital_lex.specs.declared.faults.TextFault.TheVariants.{Fault, TooManyTokens, TooDeep}
-use Rattle.vital_tool.specs.Answers.{◌>>=◌}
-use Rattle.vital_tool.specs.CheckAnswer.{AreRead, Continues, IsFileRefusal, offset_of}
+use Rattle.vital_tool.specs.Answer.{◌>>=◌}
+use Rattle.vital_tool.specs.Reading.{Continues, IsReadAs, AreRead}
+use Rattle.vital_tool.specs.Refusals.{offset_of}
+use Rattle.vital_tool.specs.declared.loading.Source.{Source}
 use Rattle.vital_tool.specs.declared.refusal.Refusal.{Refusal}
 use Rattle.vital_vhdl.specs.Outcomes.{IsReading}
 use Rattle.vital_vhdl.specs.declared.reading.UnitError.{UnitError}
-use Rattle.vital_vhdl.specs.declared.reading.UnitError.TheVariants as unit_error
 use Rattle.vital_vhdl.specs.declared.unit.Role.TheVariants.{Lib}
 use Rattle.vital_vhdl.specs.declared.unit.Units.{Units}
+use Rattle.vital_words.specs.declared.key.FileKind.{FileKind}
+use Rattle.vital_words.specs.declared.key.FileKind.TheVariants as kinds
 
 -- these files, and those that are still to come
 abbrev pub with_files : List Units → Result (List Units) Refusal → Result (List Units) Refusal
 with_files front others = others >>= λ files. Ok (front ++ files)
 
--- Whatever comes of all texts is what was read of the first of them with what comes of the others.
-pub record IsRead (texts : List (List ℕ)) (most i room : ℕ) (front : List Units) : Type 0 where
-  pub all : (outcome : Result (List Units) Refusal) → AreRead 0 most texts outcome
-      → (others : Result (List Units) Refusal) × AreRead i room (drop i texts) others × (outcome ≡ with_files front others)
+-- Whatever comes of all sources is what was read of the first of them with what comes of the others.
+pub record IsRead (sources : List Source) (most i room : ℕ) (front : List Units) : Type 0 where
+  pub all : (outcome : Result (List Units) Refusal) → AreRead 0 most sources outcome
+      → (others : Result (List Units) Refusal) × AreRead i room (drop i sources) others × (outcome ≡ with_files front others)
 
 -- a text is refused within it
 pub inside : (text : List ℕ) (room : ℕ) (fault : TextFault) → IsOutcome text room (Err fault) → offset_of fault ≤ length text
 inside text room (Fault at why) (lexemes, reaches, stuck, reason) = omega (arith, stuck.inside)
 inside text room (TooManyTokens at) (lexemes, l, start, reaches, next, full) = omega (arith, start, next.lexeme.longest.forward, next.lexeme.longest.within)
 inside text room (TooDeep at) (lexemes, l, start, reaches, next, room_left, deep) = omega (arith, start, next.lexeme.longest.forward, next.lexeme.longest.within)
+
+-- what comes of the sources after the one of this number, where it used so many tokens
+abbrev After : List Source → ℕ → ℕ → ℕ → Result (List Units) Refusal → Type 0
+After sources i room used others = AreRead (i + 1) (room - used) (drop (i + 1) sources) others
+
+-- what comes of the sources from a number on, where the first of them is this one
+here_is : (sources : List Source) (i room : ℕ) (s : Source) (k : FileKind) (others : Result (List Units) Refusal) → i < length sources → s ≡ get_or sources i s → s.kind ≡ k → AreRead i room (drop i sources) others
+    → IsReadAs k i s.text room (After sources i room) others
+here_is sources i room s k others within is kind read =
+    let first = subst (λ (xs : List Source). AreRead i room xs others) (drop_more sources i s within ∙ ap (λ (x : Source). x ∷ drop (i + 1) sources) (sym is)) read in
+    subst (λ (found : FileKind). IsReadAs found i s.text room (After sources i room) others) kind first
+
+-- a stimulus file is passed over
+pub passes_over : (sources : List Source) (most i room : ℕ) (front : List Units) (s : Source) → i < length sources → s ≡ get_or sources i s → s.kind ≡ kinds.Stim → IsRead sources most i room front
+    → IsRead sources most (i + 1) room front
+passes_over sources most i room front s within is stim r =
+    let same : room - 0 ≡ room = omega arith in
+    record {
+      all = λ outcome h.
+          let p = r.all outcome h in
+          (p.0, subst (λ (left : ℕ). AreRead (i + 1) left (drop (i + 1) sources) p.0) same (here_is sources i room s kinds.Stim p.0 within is stim p.1), p.2);
+    }
+
+joins : (front : List Units) (units : Units) (others : Result (List Units) Refusal) → with_files front (others >>= λ later. Ok (units ∷ later)) ≡ with_files (front ++ units ∷ []) others
+joins front units (Ok later) = ap (λ (all : List Units). Ok all) (sym (append_assoc front (units ∷ []) later))
+joins front units (Err refusal) = refl
+
+-- a VHDL file is read, and goes before the others
+pub goes_on : (sources : List Source) (most i room : ℕ) (front : List Units) (s : Source) (units : Units) → i < length sources → s ≡ get_or sources i s → s.kind ≡ kinds.Lib
+    → ((first : Result Units UnitError) → IsReading i Lib s.text room first → first ≡ Ok units) → IsRead sources most i room front → IsRead sources most (i + 1) (room - units.tokens) (front ++ units ∷ [])
+goes_on sources most i room front s units within is lib only r =
+    record {
+      all = λ outcome h.
+          let p = r.all outcome h in
+          let read = here_is sources i room s kinds.Lib p.0 within is lib p.1 in
+          let left = subst (λ (first : Result Units UnitError). Continues i s.text first (After sources i room) p.0) (only read.0 read.1) read.2 in
+          (left.0, left.1, p.2 ∙ ap (with_files front) left.2 ∙ joins front units left.0);
+    }

@@ -1,14 +1,13 @@
 pub mod Rising
-pub mod Refusals
 pub mod Least
-pub mod Cycles
+pub mod CycleStates
 pub mod Written
 pub mod Sending
 pub mod OneCycle
 pub mod Printing
 pub mod Loaded
 pub mod OneAnswer
-pub mod Cells
+pub mod CellsLeft
 pub mod FilesRead
 pub mod Parts
 pub mod CyclesLeft

@@ -1,42 +1,43 @@
 -- Words and files have one answer, since each text has one reading.
 use Rattle.std.proofs.Common.{◌≡◌, ℕ, ◌+◌, ◌-◌, List, [], ◌∷◌, Option, Some, None, Result, Ok, Err, refl, sym, ap, subst, ◌∙◌}
+use Rattle.std.specs.List.{slice_get}
 use Rattle.vital_base.specs.Shelves.{Files}
 use Rattle.vital_base.specs.declared.place.Place.{Place}
-use Rattle.vital_library.specs.Gathered.{gathered, limited, judged, refusal}
-use Rattle.std.specs.List.{slice_get}
-use Rattle.vital_vhdl.specs.declared.unit.Unit.{Unit as Unit'}
-use Rattle.vital_library.specs.Units.{units_of}
 use Rattle.vital_library.specs.Faults.{least_of, faults}
+use Rattle.vital_library.specs.Gathered.{gathered, limited, judged, refusal}
+use Rattle.vital_library.specs.Units.{units_of}
 use Rattle.vital_library.specs.declared.error.LibraryError.{LibraryError}
 use Rattle.vital_library.specs.declared.error.LibraryError.TheVariants as library
 use Rattle.vital_library.specs.declared.error.TheConstants.{MOST_UNITS}
 use Rattle.vital_library.specs.declared.fault.Fault.{Fault}
 use Rattle.vital_library.specs.declared.fault.FaultKind.{FaultKind}
 use Rattle.vital_library.specs.declared.fault.FaultKind.TheVariants.{Duplicate, NoEntity}
-use Rattle.vital_report.specs.declared.line.Limit.TheVariants.{Units as UnitsLimit}
 use Rattle.vital_report.specs.declared.line.LibraryWhy.TheVariants as why
-use Rattle.vital_tool.specs.declared.reading.TheConstants.{MOST_TOKENS}
+use Rattle.vital_report.specs.declared.line.Limit.TheVariants.{Units as UnitsLimit}
+use Rattle.vital_tool.specs.Answer.{Answer, ◌>>=◌}
+use Rattle.vital_tool.specs.Loading.{all_loaded}
+use Rattle.vital_tool.specs.Outcome.{Gives}
+use Rattle.vital_tool.specs.Reading.{Continues, IsReadAs, AreRead}
+use Rattle.vital_tool.specs.Refusals.{refused_words, text_refusal, IsFileRefusal, refused_at, IsLibraryRefusal}
+use Rattle.vital_tool.specs.Stages.{task_answer, IsLibraryAnswer, IsReadAnswer, IsLoadedAnswer, IsJobAnswer, IsAnswer, IsOnlyAnswer}
+use Rattle.vital_tool.specs.declared.loading.Source.{Source}
 use Rattle.vital_tool.specs.declared.refusal.Refusal.{Refusal}
 use Rattle.vital_tool.specs.declared.refusal.Refusal.TheVariants as refusals
 use Rattle.vital_tool.specs.declared.status.Status.{Status}
-use Rattle.vital_tool.specs.declared.status.Status.TheVariants.{Done, Usage, NoMemory}
-use Rattle.vital_tool.specs.declared.words.Job.{Job}
-use Rattle.vital_tool.specs.declared.words.Job.TheVariants.{Play, Check}
-use Rattle.vital_tool.specs.declared.words.UsageFault.{UsageFault}
-use Rattle.vital_tool.specs.Answer.{IsJobAnswer, IsAnswer, IsOnlyAnswer}
-use Rattle.vital_tool.specs.Answers.{Answer, ◌>>=◌, refused, text_of, all_loaded}
-use Rattle.vital_tool.specs.PlayAnswer.{play_answer}
-use Rattle.vital_report.specs.Lines.{refused_usage}
-use Rattle.vital_tool.specs.CheckAnswer.{text_refusal, IsFileRefusal, Continues, AreRead, refused_at, cell_lines, IsLibraryAnswer, IsReadAnswer, IsTextsAnswer}
-use Rattle.vital_tool.specs.Outcome.{Gives}
-use Rattle.vital_tool.specs.Words.{job}
+use Rattle.vital_tool.specs.declared.status.Status.TheVariants.{NoMemory}
 use Rattle.vital_tool.proofs.Printing.{prints_nothing}
 use Rattle.vital_vhdl.specs.Outcomes.{IsReading}
 use Rattle.vital_vhdl.specs.declared.reading.UnitError.{UnitError}
 use Rattle.vital_vhdl.specs.declared.reading.UnitError.TheVariants as unit_error
 use Rattle.vital_vhdl.specs.declared.unit.Role.{Role}
 use Rattle.vital_vhdl.specs.declared.unit.Role.TheVariants.{Lib}
+use Rattle.vital_vhdl.specs.declared.unit.Unit.{Unit as Unit'}
 use Rattle.vital_vhdl.specs.declared.unit.Units.{Units}
+use Rattle.vital_words.specs.Jobs.{job}
+use Rattle.vital_words.specs.declared.job.Job.{Job}
+use Rattle.vital_words.specs.declared.key.FileKind.{FileKind}
+use Rattle.vital_words.specs.declared.key.FileKind.TheVariants as kind
+use Rattle.vital_words.specs.declared.refusal.UsageFault.{UsageFault}
 
 -- there is one of this kind
 abbrev pub IsOne : {A : Type 0} → (A → Type 0) → Type 0
@@ -69,16 +70,21 @@ one_going_on number text room After after (Err error) h =
     let p = one_refusal number text room error h in
     (Err p.0, (p.0, p.1, refl), λ other o. o.2 ∙ ap (λ (r : Refusal). Err r) (p.2 o.0 o.1))
 
-one_read : OneReading → (number room : ℕ) (texts : List (List ℕ)) → IsOne (AreRead number room texts)
-one_read reads number room [] = one_is (Ok [])
-one_read reads number room (text ∷ texts) =
+one_read_as : OneReading → (kind : FileKind) (number : ℕ) (text : List ℕ) (room : ℕ) (After : ℕ → Result (List Units) Refusal → Type 0) → ((used : ℕ) → IsOne (After used))
+    → IsOne (IsReadAs kind number text room After)
+one_read_as reads kind.Lib number text room After after =
     let r = reads number Lib text room in
-    let p = one_going_on number text room (λ used. AreRead (number + 1) (room - used) texts) (λ used. one_read reads (number + 1) (room - used) texts) r.0 r.1 in (
+    let p = one_going_on number text room After after r.0 r.1 in (
       p.0,
       (r.0, r.1, p.1),
-      λ other o.
-          p.2 other (subst (λ (first : Result Units UnitError). Continues number text first (λ used. AreRead (number + 1) (room - used) texts) other) (r.2 o.0 o.1) o.2),
+      λ other o. p.2 other (subst (λ (first : Result Units UnitError). Continues number text first After other) (r.2 o.0 o.1) o.2),
     )
+one_read_as reads kind.Stim number text room After after = after 0
+
+one_read : OneReading → (number room : ℕ) (sources : List Source) → IsOne (AreRead number room sources)
+one_read reads number room [] = one_is (Ok [])
+one_read reads number room (source ∷ sources) =
+    one_read_as reads source.kind number source.text room (λ used. AreRead (number + 1) (room - used) sources) (λ used. one_read reads (number + 1) (room - used) sources)
 
 -- ---- one answer to files that were read
 
@@ -98,30 +104,34 @@ gathered_is files e = limited_is (slice_get (units_of files) MOST_UNITS) e
     limited_is None h = judged_is files (least_of (faults (units_of files))) h
     limited_is (Some extra) h = cc
 
-one_library : (names : List (List ℕ)) (outcome : Result (List Units) LibraryError) → (outcome ≡ Err library.NoMemory → ⊥) → IsOne (IsLibraryAnswer names outcome)
-one_library names (Ok files) some = one_is (record { bytes = text_of (cell_lines files); status = Done })
-one_library names (Err (library.TooManyUnits place)) some = one_is (refused_at names (refusals.Limit UnitsLimit place))
-one_library names (Err (library.Duplicate place)) some = one_is (refused_at names (refusals.Library why.Duplicate place))
-one_library names (Err (library.NoEntity place)) some = one_is (refused_at names (refusals.Library why.Entity place))
-one_library names (Err library.NoMemory) some = absurd (some refl)
+one_library_refusal : (error : LibraryError) → (error ≡ library.NoMemory → ⊥) → IsOne (IsLibraryRefusal error)
+one_library_refusal (library.TooManyUnits place) some = one_is (refusals.Limit UnitsLimit place)
+one_library_refusal (library.Duplicate place) some = one_is (refusals.Library why.Duplicate place)
+one_library_refusal (library.NoEntity place) some = one_is (refusals.Library why.Entity place)
+one_library_refusal library.NoMemory some = absurd (some refl)
 
-one_read_answer : (names : List (List ℕ)) (read : Result (List Units) Refusal) → IsOne (IsReadAnswer names read)
-one_read_answer names (Ok files) = one_library names (gathered files) (gathered_is files)
-one_read_answer names (Err r) = one_is (refused_at names r)
+one_library : (job : Job) (sources : List Source) (outcome : Result (List Units) LibraryError) → (outcome ≡ Err library.NoMemory → ⊥) → IsOne (IsLibraryAnswer job sources outcome)
+one_library job sources (Ok files) some = one_is (task_answer job.task job.files sources files)
+one_library job sources (Err error) some =
+    let p = one_library_refusal error (λ e. some (ap (λ (x : LibraryError). Err x) e)) in
+    (refused_at job.files p.0, (p.0, p.1, refl), λ other o. o.2 ∙ ap (refused_at job.files) (p.2 o.0 o.1))
 
-one_texts_answer : OneReading → (names : List (List ℕ)) (texts : Result (List (List ℕ)) Answer) → IsOne (IsTextsAnswer names texts)
-one_texts_answer reads names (Ok texts) =
-    let r = one_read reads 0 MOST_TOKENS texts in
-    let p = one_read_answer names r.0 in
-    (p.0, (r.0, r.1, p.1), λ other o. p.2 other (subst (λ (read : Result (List Units) Refusal). IsReadAnswer names read other) (r.2 o.0 o.1) o.2))
-one_texts_answer reads names (Err e) = one_is e
+one_read_answer : (job : Job) (sources : List Source) (read : Result (List Units) Refusal) → IsOne (IsReadAnswer job sources read)
+one_read_answer job sources (Ok files) = one_library job sources (gathered files) (gathered_is files)
+one_read_answer job sources (Err r) = one_is (refused_at job.files r)
+
+one_loaded_answer : OneReading → (job : Job) (loaded : Result (List Source) Answer) → IsOne (IsLoadedAnswer job loaded)
+one_loaded_answer reads job (Ok sources) =
+    let r = one_read reads 0 4_194_304 sources in
+    let p = one_read_answer job sources r.0 in
+    (p.0, (r.0, r.1, p.1), λ other o. p.2 other (subst (λ (read : Result (List Units) Refusal). IsReadAnswer job sources read other) (r.2 o.0 o.1) o.2))
+one_loaded_answer reads job (Err e) = one_is e
 
 -- ---- one answer to words
 
 one_job_answer : OneReading → (files : Files) (j : Result Job UsageFault) → IsOne (IsJobAnswer files j)
-one_job_answer reads files (Ok (Play words)) = one_is (play_answer files words)
-one_job_answer reads files (Ok (Check words)) = one_texts_answer reads words.libs (all_loaded files words.libs)
-one_job_answer reads files (Err fault) = one_is (refused (refused_usage fault.word fault.why) Usage)
+one_job_answer reads files (Ok job) = one_loaded_answer reads job (all_loaded files job.files)
+one_job_answer reads files (Err fault) = one_is (refused_words fault)
 
 -- what is given for every answer is given for the one that there is
 pub given : OneReading → (words : List (List ℕ)) (files : Files) (j : Result Job UsageFault) (status : Status) (old new : Option (List ℕ)) → job words ≡ j

@@ -6,7 +6,7 @@ use Rattle.std.proofs.lemmas.List.{drop_more, take_more, take_all, drop_all, get
 use Rattle.vital_base.specs.declared.ports.PortBit.{PortBit}
 use Rattle.vital_logic.specs.declared.level.Level.{Level}
 use Rattle.vital_report.specs.Lines.{event, bytes_of}
-use Rattle.vital_tool.specs.PlayAnswer.{text_of_event}
+use Rattle.vital_tool.specs.Stimuli.{text_of_event}
 use Rattle.vital_tool.specs.Driver.{Driver, RisesFrom, AllRise, currents, same_level, advance}
 use Rattle.vital_tool.specs.PlayText.{port_text}
 use Rattle.vital_tool.specs.Run.{events}

@@ -13,8 +13,8 @@ use Rattle.vital_report.specs.Reporters.{ReporterState}
 use Rattle.vital_tool.specs.Driver.{Driver, currents}
 use Rattle.vital_tool.specs.Run.{run_events}
 use Rattle.vital_tool.specs.Play.{port_signals, first_state}
-use Rattle.vital_tool.specs.Answers.{text_of}
-use Rattle.vital_tool.specs.PlayAnswer.{init_lines, event_line, text_of_event, run_lines, unasked}
+use Rattle.vital_tool.specs.Answer.{text_of}
+use Rattle.vital_tool.specs.Stimuli.{init_lines, event_line, text_of_event, run_lines, unasked}
 use Rattle.vital_tool.specs.PlayText.{cycles_text}
 use Rattle.vital_tool.specs.Writes.{SinkState, ready, Writes, WritesAll, WritesPrefix}
 use Rattle.vital_tool.proofs.Printing.{text_of_events}

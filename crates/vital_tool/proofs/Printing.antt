@@ -2,12 +2,11 @@
 use Rattle.std.proofs.Common.{◌≡◌, ◌≢◌, ℕ, ◌<◌, ◌≤◌, Bool, true, cond, List, [], ◌∷◌, ◌++◌, length, map, Option, Some, None, Result, Ok, Err, ◌⊎◌, inl, inr, refl, sym, ap, subst, ◌∙◌, arith}
 use Rattle.std.specs.Prelude.{IfSome, OnOk, OnErr}
 use Rattle.std.specs.List.{flat_map}
-use Rattle.std.proofs.lemmas.Bool.{false≢true, le-leb, lt-leb}
+use Rattle.std.proofs.lemmas.Bool.{false≢true}
 use Rattle.std.proofs.lemmas.List.{append-nil}
 use Rattle.vital_base.specs.Shelves.{Files}
 use Rattle.vital_base.specs.Faults.{Rose}
 use Rattle.vital_base.specs.Sinks.{appended, AppendsPrefix}
-use Rattle.vital_base.specs.declared.load.TheConstants.{LONGEST_FILE}
 use Rattle.vital_report.specs.Lines.{refused_stimulus}
 use Rattle.vital_report.specs.Reporters.{ReporterState}
 use Rattle.vital_stim.specs.Stimuli.{stim}
@@ -15,10 +14,9 @@ use Rattle.vital_stim.specs.declared.fault.StimFault.{StimFault}
 use Rattle.vital_stim.specs.declared.stimuli.Stimuli.{Stimuli}
 use Rattle.vital_tool.specs.declared.status.Status.TheVariants.{Stimulus, ReadFault, WriteFault, NoMemory}
 use Rattle.vital_tool.specs.declared.status.Status.{Status}
-use Rattle.vital_tool.specs.declared.words.Play.{Play as PlayWords}
 use Rattle.vital_tool.specs.Run.{Event}
-use Rattle.vital_tool.specs.Answers.{Answer, ◌>>=◌, ended, text_of, refused, too_long, not_there, loaded}
-use Rattle.vital_tool.specs.PlayAnswer.{event_line, text_of_event, accepted, printed_why, stimuli_answer, text_answer, play_answer}
+use Rattle.vital_tool.specs.Answer.{Answer, text_of, refused}
+use Rattle.vital_tool.specs.Stimuli.{event_line, text_of_event, printed_why, stimuli_answer, read_answer, text_answer}
 use Rattle.vital_tool.specs.Outcome.{Gives, Prints, Runs, complete, input_failed, output_failed, memory_failed}
 use Rattle.vital_tool.specs.Writes.{SinkState, ready, Writes, WritesAll, WritesPrefix}
 
@@ -110,25 +108,11 @@ runs_nothing IsAnswer told is_steady before after old falls =
     runs_printed IsAnswer (λ answer. Unit {0}) NoMemory told is_steady before after old old (prints_nothing (λ answer. Unit {0}) old) falls (if_told told _ (λ files answer is. tt))
 
 -- the answer to a text with stimuli, and to one with a fault
-pub text_of_stimuli : (words : PlayWords) (text : List ℕ) (stimuli : Stimuli) → stim text ≡ Ok stimuli → text_answer words text ≡ stimuli_answer words stimuli
-text_of_stimuli words text stimuli e = ap (λ (r : Result Stimuli StimFault). ended (accepted words.stim r >>= λ s. Ok (stimuli_answer words s))) e
+pub text_of_stimuli : (name : List ℕ) (until : ℕ) (text : List ℕ) (stimuli : Stimuli) → stim text ≡ Ok stimuli → text_answer name until text ≡ stimuli_answer until stimuli
+text_of_stimuli name until text stimuli e = ap (read_answer name until) e
 
-pub text_of_fault : (words : PlayWords) (text : List ℕ) (fault : StimFault) → stim text ≡ Err fault → text_answer words text ≡ refused (refused_stimulus (printed_why fault.why) words.stim fault.line) Stimulus
-text_of_fault words text fault e = ap (λ (r : Result Stimuli StimFault). ended (accepted words.stim r >>= λ s. Ok (stimuli_answer words s))) e
-
--- the answer where the file is there, where it is too long, and where it is missing
-pub play_of_text : (files : Files) (words : PlayWords) (text : List ℕ) → files words.stim ≡ Some text → length text ≤ LONGEST_FILE → play_answer files words ≡ text_answer words text
-play_of_text files words text e le =
-    ap (λ (o : Option (List ℕ)). ended (loaded words.stim o >>= λ t. Ok (text_answer words t))) e
-    ∙ ap (λ (b : Bool). ended (cond b (Ok text) (Err (too_long words.stim)) >>= λ t. Ok (text_answer words t))) (le-leb (length text) LONGEST_FILE le)
-
-pub play_of_long : (files : Files) (words : PlayWords) (text : List ℕ) → files words.stim ≡ Some text → LONGEST_FILE < length text → play_answer files words ≡ too_long words.stim
-play_of_long files words text e lt =
-    ap (λ (o : Option (List ℕ)). ended (loaded words.stim o >>= λ t. Ok (text_answer words t))) e
-    ∙ ap (λ (b : Bool). ended (cond b (Ok text) (Err (too_long words.stim)) >>= λ t. Ok (text_answer words t))) (lt-leb (length text) LONGEST_FILE lt)
-
-pub play_of_none : (files : Files) (words : PlayWords) → files words.stim ≡ None → play_answer files words ≡ not_there
-play_of_none files words e = ap (λ (o : Option (List ℕ)). ended (loaded words.stim o >>= λ t. Ok (text_answer words t))) e
+pub text_of_fault : (name : List ℕ) (until : ℕ) (text : List ℕ) (fault : StimFault) → stim text ≡ Err fault → text_answer name until text ≡ refused (refused_stimulus (printed_why fault.why) name fault.line) Stimulus
+text_of_fault name until text fault e = ap (read_answer name until) e
 
 not_stopped : (reporter : ReporterState) (old new : ℕ) → reporter ≡ ready → ((reporter.stopped ≡ true) ⊎ Rose old new) → Rose old new
 not_stopped reporter old new is (inl stopped) = absurd (false≢true (sym (ap (λ (r : ReporterState). r.stopped) is) ∙ stopped))

@@ -8,7 +8,7 @@ use Rattle.vital_stim.specs.declared.stimuli.StimLine.{StimLine}
 use Rattle.vital_tool.specs.Driver.{AllRise, Driver, with_new, send}
 use Rattle.vital_stim.specs.declared.stimuli.Stimuli.{Stimuli}
 use Rattle.vital_tool.specs.Play.{changed, sent, idle_drivers, initial_level, after_initial_run, first_state}
-use Rattle.vital_tool.proofs.Cycles.{values_are}
+use Rattle.vital_tool.proofs.CycleStates.{values_are}
 use Rattle.vital_tool.proofs.Rising.{with_new_rises}
 
 set_is_changed : (ds : List Driver) (n : ℕ) (f : Driver → Driver) (d : Driver) → n < length ds → set ds n (f (get_or ds n d)) ≡ changed n f ds

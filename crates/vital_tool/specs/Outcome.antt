@@ -5,7 +5,7 @@ use Rattle.vital_base.specs.Shelves.{Files}
 use Rattle.vital_base.specs.Sinks.{appended, AppendsPrefix}
 use Rattle.vital_tool.specs.declared.status.Status.{Status}
 use Rattle.vital_tool.specs.declared.status.Status.TheVariants.{ReadFault, WriteFault, NoMemory}
-use Rattle.vital_tool.specs.Answers.{Answer}
+use Rattle.vital_tool.specs.Answer.{Answer}
 use Rattle.vital_tool.specs.Writes.{SinkState}
 
 -- A run with this status, over a sink that told the old bytes before it and the new ones after it, gave the answer:

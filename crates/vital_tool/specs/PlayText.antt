@@ -2,7 +2,7 @@
 use Rattle.std.specs.Prelude.{ℕ, List, [], ◌∷◌, map}
 use Rattle.std.specs.List.{flat_map}
 use Rattle.vital_base.specs.declared.ports.PortBit.{PortBit}
-use Rattle.vital_tool.specs.PlayAnswer.{text_of_event, unasked}
+use Rattle.vital_tool.specs.Stimuli.{text_of_event, unasked}
 use Rattle.vital_tool.specs.Driver.{Driver, advance, currents}
 use Rattle.vital_tool.specs.Play.{first_state, port_signals}
 use Rattle.vital_tool.specs.Run.{events, run_events}

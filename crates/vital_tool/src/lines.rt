@@ -2,7 +2,8 @@
 
 ghost use Rattle.std.specs.Prelude.{◌≡◌, ◌≢◌};
 ghost use Rattle.vital_report.specs.Lines.{bytes_of, said};
-ghost use Rattle.vital_tool.specs.Answers.{refused, too_long};
+ghost use Rattle.vital_tool.specs.Answer.{refused};
+ghost use Rattle.vital_tool.specs.Loading.{too_long};
 ghost use Rattle.vital_tool.specs.Outcome.{Prints};
 ghost use Rattle.vital_tool.specs.Writes.{Writes, ready};
 

@@ -2,13 +2,23 @@
 
 ghost use Rattle.std.specs.Prelude.{◌≡◌, ◌≤◌, length, All, IfOk, IfSome, Err};
 ghost use Rattle.vital_base.specs.Faults.{Rose};
-ghost use Rattle.vital_base.specs.declared.load.TheConstants.{LONGEST_FILE};
-ghost use Rattle.vital_tool.specs.Answers.{all_loaded, not_there};
-ghost use Rattle.vital_tool.specs.Given.{GivesTexts};
+ghost use Rattle.vital_tool.specs.Answer.{not_there};
+ghost use Rattle.vital_tool.specs.Loading.{all_loaded};
+ghost use Rattle.vital_tool.specs.Returned.{GivesSources};
 ghost use Rattle.vital_tool.specs.declared.loading.NotLoaded.TheVariants.{NoMemory};
 
 use std::alloc::{AllocFailed, Global};
 use vital_base::{Bytes, List, LoadError, Name, Shelf, read_file};
+use vital_words::{FileKind, NamedFile};
+
+/// A file that was loaded.
+#[derive(Debug, Drop)]
+pub struct Source {
+    /// What it is read as.
+    pub kind: FileKind,
+    /// Its bytes.
+    pub text: Bytes,
+}
 
 /// Why files were not loaded.
 #[derive(Clone, Copy, Debug)]
@@ -29,29 +39,32 @@ impl<T: Drop> From<AllocFailed<T>> for NotLoaded<'_> {
     }
 }
 
-/// The bytes of the files of these names, in order; or the first fault, or the first file that is too long.
+/// Loads these files, in order; or answers the first fault, or the first file that is too long.
 pub fn load_files<'a, S: Shelf>(
     alloc: Global,
-    names: &'a [Name],
+    files: &'a [NamedFile],
     shelf: &mut S,
-) -> Result<List<Bytes>, NotLoaded<'a>>
-    ensures loaded { IfSome (S.files shelf.old) (λ files. GivesTexts result (all_loaded files names.now)) }
-    ensures within { IfOk result (All (λ text. length text ≤ LONGEST_FILE)) }
-    ensures count { IfOk result (λ texts. length texts ≡ length names.now) }
+) -> Result<List<Source>, NotLoaded<'a>>
+    ensures loaded { IfSome (S.files shelf.old) (λ told. GivesSources result (all_loaded told files.now)) }
+    ensures within { IfOk result (All (λ source. length source.text ≤ 16_777_216)) }
+    ensures count { IfOk result (λ sources. length sources ≡ length files.now) }
 
     ensures read_fault_rose { result ≡ Err NotLoaded.ReadFault → Rose (S.faults shelf.old) (S.faults shelf.new) }
     ensures read_fault_is_missing { result ≡ Err NotLoaded.ReadFault → S.is_steady shelf.old
-        → IfSome (S.files shelf.old) (λ files. all_loaded files names.now ≡ Err not_there) }
+        → IfSome (S.files shelf.old) (λ told. all_loaded told files.now ≡ Err not_there) }
     ensures never_falls { S.faults shelf.old ≤ S.faults shelf.new }
 {
-    let mut texts = Vec::new(alloc);
-    for name in names {
-        match read_file(alloc, shelf, name) {
-            Ok(text) => texts.push(text)?,
+    let mut sources = Vec::new(alloc);
+    for file in files {
+        match read_file(alloc, shelf, &file.name) {
+            Ok(text) => sources.push(Source {
+                kind: file.kind,
+                text,
+            })?,
             Err(LoadError::ReadFault) => return Err(NotLoaded::ReadFault),
-            Err(LoadError::TooLong) => return Err(NotLoaded::TooLong(name)),
+            Err(LoadError::TooLong) => return Err(NotLoaded::TooLong(&file.name)),
             Err(LoadError::NoMemory) => return Err(NotLoaded::NoMemory),
         }
     }
-    Ok(List::new(texts))
+    Ok(List::new(sources))
 }

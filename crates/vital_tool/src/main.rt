@@ -1,18 +1,17 @@
 //! The program: its words, the run that they ask for, and the one call that does it all.
 #![tactic(auto)]
 
-mod checking;
+mod cells;
+mod cycles;
 mod driver;
-mod keys;
 mod lines;
 mod loading;
-mod play;
-mod playing;
 mod reading;
 mod refusal;
 mod run;
+mod stages;
 mod status;
-mod words;
+mod stimuli;
 
 use crate::run::run;
 use std::alloc::{AllocError, Global};

@@ -1,24 +1,26 @@
 //! Reading the texts of VHDL files.
 
 ghost use Rattle.std.specs.Prelude.{◌≡◌, ◌≤◌, List as List', Result, length, All};
-ghost use Rattle.vital_base.specs.declared.load.TheConstants.{LONGEST_FILE};
-ghost use Rattle.vital_tool.specs.CheckAnswer.{AreRead, offset_of, place_in, printed_lexical, text_refusal};
-ghost use Rattle.vital_tool.specs.Given.{GivesFiles, GivesFirst};
+ghost use Rattle.vital_tool.specs.Reading.{AreRead};
+ghost use Rattle.vital_tool.specs.Refusals.{offset_of, place_in, printed_lexical, text_refusal};
+ghost use Rattle.vital_tool.specs.Returned.{GivesUnits, GivesFirst};
 ghost use Rattle.vital_tool.specs.declared.reading.Unread.TheVariants.{NoMemory};
 ghost use Rattle.vital_tool.specs.declared.refusal.Refusal.{Refusal as Refusal'};
 ghost use Rattle.vital_vhdl.specs.Outcomes.{IsReading};
 ghost use Rattle.vital_vhdl.specs.declared.reading.UnitError.{UnitError as UnitError'};
 ghost use Rattle.vital_vhdl.specs.declared.unit.Units.{Units as Units'};
 
+use crate::loading::Source;
 use crate::refusal::Refusal;
 use std::alloc::{AllocFailed, Global};
-use vital_base::{Bytes, List, Place};
+use vital_base::{List, Place};
 use vital_lex::{TextFault, Why, line_column};
 use vital_report::{LexicalWhy, Limit};
 use vital_vhdl::{Role, UnitError, Units, read_units};
+use vital_words::FileKind;
 
 /// The most tokens that all files of a run have.
-pub const MOST_TOKENS: u32 = 4_194_304;
+const MOST_TOKENS: u32 = 4_194_304;
 
 /// Why files were not read.
 #[derive(Clone, Copy, Debug, PartialEq, Eq)]
@@ -35,25 +37,30 @@ impl<T: Drop> From<AllocFailed<T>> for Unread {
     }
 }
 
-/// The units of the files with these texts, which are numbered from 0; or how the first that is refused is.
-pub fn read_files(alloc: Global, texts: &[Bytes]) -> Result<List<Units>, Unread>
-    requires few { length texts.now ≤ 16 }
-    requires within { All (λ text. length text ≤ LONGEST_FILE) texts.now }
-    ensures { (outcome : Result (List' Units') Refusal') → AreRead 0 MOST_TOKENS texts.now outcome → GivesFiles result outcome }
+/// The units of the VHDL files among these, which are numbered from 0; or how the first that is refused is.
+pub fn read_files(alloc: Global, sources: &[Source]) -> Result<List<Units>, Unread>
+    requires few { length sources.now ≤ 16 }
+    requires within { All (λ source. length source.text ≤ 16_777_216) sources.now }
+    ensures { (outcome : Result (List' Units') Refusal') → AreRead 0 4_194_304 sources.now outcome → GivesUnits result outcome }
 {
     let mut files = Vec::new(alloc);
     let mut room = MOST_TOKENS;
-    for (number, text) in texts.iter().enumerate() {
-        let units = read_text(alloc, number as u32, text.as_slice(), room)?;
-        room = room.saturating_sub(units.tokens);
-        files.push(units)?;
+    for (number, source) in sources.iter().enumerate() {
+        match source.kind {
+            FileKind::Lib => {
+                let units = read_text(alloc, number as u32, source.text.as_slice(), room)?;
+                room = room.saturating_sub(units.tokens);
+                files.push(units)?;
+            }
+            FileKind::Stim => {}
+        }
     }
     Ok(List::new(files))
 }
 
 /// The units of the file with this number and text, or how it is refused.
 fn read_text(alloc: Global, number: u32, text: &[u8], room: u32) -> Result<Units, Unread>
-    requires { length text.now ≤ LONGEST_FILE }
+    requires { length text.now ≤ 16_777_216 }
     ensures { (first : Result Units' UnitError') → IsReading number Role.Lib text.now room first
         → GivesFirst number text.now result first }
 {
@@ -67,7 +74,7 @@ fn read_text(alloc: Global, number: u32, text: &[u8], room: u32) -> Result<Units
 
 /// How a fault of a text, or a limit that it passes, is refused.
 fn text_refusal(number: u32, text: &[u8], fault: TextFault) -> Refusal
-    requires short { length text.now ≤ LONGEST_FILE }
+    requires short { length text.now ≤ 16_777_216 }
     requires inside { offset_of fault ≤ length text.now }
     ensures { result ≡ text_refusal number text.now fault }
 {
@@ -98,7 +105,7 @@ fn printed_lexical(why: Why) -> LexicalWhy
 
 /// The place of an offset in the text of the file with this number.
 fn place_in(number: u32, text: &[u8], offset: u32) -> Place
-    requires short { length text.now ≤ LONGEST_FILE }
+    requires short { length text.now ≤ 16_777_216 }
     requires inside { offset ≤ length text.now }
     ensures { result ≡ place_in number text.now offset }
 {

@@ -1,8 +1,9 @@
-//! How VHDL files are refused.
+//! How words and files are refused.
 
 ghost use Rattle.std.specs.Prelude.{◌≡◌, []};
 ghost use Rattle.vital_report.specs.Lines.{spot};
-ghost use Rattle.vital_tool.specs.CheckAnswer.{place_of, refused_at, spot_of};
+ghost use Rattle.vital_tool.specs.Refusals.{place_of, printed_usage, refused_at, refused_words, spot_of};
+ghost use Rattle.vital_tool.specs.Returned.{GivesRefusal};
 ghost use Rattle.vital_tool.specs.Outcome.{Prints};
 ghost use Rattle.vital_tool.specs.Writes.{ready};
 
@@ -10,7 +11,11 @@ use crate::lines::refuse;
 use crate::status::Status;
 use std::alloc::Global;
 use vital_base::{Name, Place, Sink};
-use vital_report::{LexicalWhy, LibraryWhy, Limit, Line, Position, Reporter};
+use vital_library::LibraryError;
+use vital_report::{
+    LexicalWhy, LibraryWhy, Limit, Line, Position, Reporter, UsageWhy as PrintedUsage,
+};
+use vital_words::{NamedFile, UsageFault, UsageWhy};
 
 /// How files are refused, and where. The number of a place's file counts the files from 0 in the order of their words.
 #[derive(Clone, Copy, Debug, PartialEq, Eq)]
@@ -38,21 +43,21 @@ impl Refusal {
     }
 }
 
-/// Writes the one line of a refusal of files with these names, and ends with its status.
+/// Writes the one line of a refusal of these files, and ends with its status.
 pub fn refuse_files<K: Sink>(
     alloc: Global,
-    names: &[Name],
+    files: &[NamedFile],
     refusal: Refusal,
     report: &mut Reporter,
     sink: &mut K,
 ) -> Status
     requires { report.old ≡ ready }
-    ensures { Prints (λ answer. answer ≡ refused_at names.now refusal) result
+    ensures { Prints (λ answer. answer ≡ refused_at files.now refusal) result
         (record { told = K.bytes sink.old; faults = K.faults sink.old })
         (record { told = K.bytes sink.new; faults = K.faults sink.new }) }
 {
     let nameless = Name::new(Vec::new(alloc));
-    let at = position_of(names, refusal.place(), &nameless);
+    let at = position_of(files, refusal.place(), &nameless);
     match refusal {
         Refusal::Lexical { why, .. } => {
             let line = Line::RefusedLexical { at, why };
@@ -74,13 +79,65 @@ pub fn refuse_files<K: Sink>(
 }
 
 /// A place as it is printed, with the name of its file; every file of a run has one, and `nameless` stands for none.
-fn position_of<'a>(names: &'a [Name], place: Place, nameless: &'a Name) -> Position<'a>
+fn position_of<'a>(files: &'a [NamedFile], place: Place, nameless: &'a Name) -> Position<'a>
     requires { nameless.now ≡ [] }
-    ensures { spot result ≡ spot_of names.now place }
+    ensures { spot result ≡ spot_of files.now place }
 {
+    let file = match files.get(place.file as usize) {
+        Some(file) => &file.name,
+        None => nameless,
+    };
     Position {
-        file: names.get(place.file as usize).unwrap_or(nameless),
+        file,
         line: place.line,
         column: place.column,
+    }
+}
+
+/// Writes the one line of words that are refused, and ends with its status.
+pub fn refuse_words<K: Sink>(fault: UsageFault, report: &mut Reporter, sink: &mut K) -> Status
+    requires { report.old ≡ ready }
+    ensures { Prints (λ answer. answer ≡ refused_words fault) result
+        (record { told = K.bytes sink.old; faults = K.faults sink.old })
+        (record { told = K.bytes sink.new; faults = K.faults sink.new }) }
+{
+    let line = Line::RefusedUsage {
+        word: fault.word,
+        why: printed_usage(fault.why),
+    };
+    refuse(&line, Status::Usage, report, sink)
+}
+
+/// Why words are refused, as it is printed.
+fn printed_usage(why: UsageWhy) -> PrintedUsage
+    ensures { result ≡ printed_usage why }
+{
+    match why {
+        UsageWhy::Command => PrintedUsage::Command,
+        UsageWhy::Key => PrintedUsage::Key,
+        UsageWhy::Twice => PrintedUsage::Twice,
+        UsageWhy::Value => PrintedUsage::Value,
+        UsageWhy::Missing => PrintedUsage::Missing,
+    }
+}
+
+/// How files that are no library are refused, unless memory ran out.
+pub fn library_refusal(error: LibraryError) -> Option<Refusal>
+    ensures { GivesRefusal error result }
+{
+    match error {
+        LibraryError::TooManyUnits { place } => Some(Refusal::Limit {
+            limit: Limit::Units,
+            place,
+        }),
+        LibraryError::Duplicate { place } => Some(Refusal::Library {
+            why: LibraryWhy::Duplicate,
+            place,
+        }),
+        LibraryError::NoEntity { place } => Some(Refusal::Library {
+            why: LibraryWhy::Entity,
+            place,
+        }),
+        LibraryError::NoMemory => None,
     }
 }

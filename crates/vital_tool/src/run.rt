@@ -2,19 +2,18 @@
 
 ghost use Rattle.std.specs.Prelude.{◌≡◌, ◌≤◌, IfSome};
 ghost use Rattle.vital_base.specs.Faults.{Rose};
-ghost use Rattle.vital_tool.specs.Answer.{IsAnswer, IsOnlyAnswer};
-ghost use Rattle.vital_tool.specs.Answers.{Answer};
+ghost use Rattle.vital_tool.specs.Answer.{Answer};
 ghost use Rattle.vital_tool.specs.Outcome.{Gives};
+ghost use Rattle.vital_tool.specs.Stages.{IsAnswer, IsOnlyAnswer};
 
-use crate::checking::run_check;
-use crate::lines::refuse;
-use crate::playing::run_play;
+use crate::refusal::refuse_words;
+use crate::stages::run_job;
 use crate::status::Status;
-use crate::words::{Job, JobError, read_job};
 use std::alloc::Global;
 use vital_base::{Shelf, Sink, Word};
-use vital_report::{Line, Reporter};
+use vital_report::Reporter;
 use vital_vhdl::one_reading;
+use vital_words::{JobError, read_job};
 
 /// Answers the words of a command line: reads what they name from the shelf, and writes the answer's lines to the sink.
 ///
@@ -49,15 +48,8 @@ pub fn run<S: Shelf, K: Sink>(
         return Status::NoMemory;
     };
     match read_job(alloc, words) {
-        Ok(Job::Play(words)) => run_play(alloc, &words, shelf, &mut report, sink),
-        Ok(Job::Check(words)) => run_check(alloc, &words, shelf, &mut report, sink),
-        Err(JobError::Usage(fault)) => {
-            let line = Line::RefusedUsage {
-                word: fault.word,
-                why: fault.why,
-            };
-            refuse(&line, Status::Usage, &mut report, sink)
-        }
+        Ok(job) => run_job(alloc, &job, shelf, &mut report, sink),
+        Err(JobError::Usage(fault)) => refuse_words(fault, &mut report, sink),
         Err(JobError::NoMemory) => Status::NoMemory,
     }
 }

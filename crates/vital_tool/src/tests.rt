@@ -3,7 +3,6 @@
 mod check_rows;
 mod play_rows;
 
-use crate::reading::MOST_TOKENS;
 use crate::run::run;
 use crate::status::Status;
 use std::alloc::{AllocError, Global};
@@ -128,7 +127,7 @@ fn checked(alloc: Global, texts: [&str; 3]) -> Result<(MemSink, Status), AllocEr
 #[test]
 fn limits_are_kept(rt: HostRuntime) -> Result<(), Fail> {
     let alloc = rt.alloc();
-    let names = repeated(alloc, "library a", ",a", (MOST_TOKENS - 6) / 2, ";")?;
+    let names = repeated(alloc, "library a", ",a", (4_194_304 - 6) / 2, ";")?;
     let most_units = packages(alloc, 4_096)?;
     let units = packages(alloc, 4_095)?;
     let deepest = repeated(alloc, "package P is constant C : T := ", "(", 64, ")")?;

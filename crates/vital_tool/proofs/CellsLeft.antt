@@ -1,0 +1,57 @@
+-- The lines of cells that are written one after the other, and how a library that is refused is answered.
+use Rattle.std.proofs.Common.{◌≡◌, ℕ, zero, suc, ◌+◌, ◌<◌, List, [], ◌∷◌, ◌++◌, length, drop, map, slice_get, Option, Some, None, Result, Ok, Err, sym, ap, subst, ◌∙◌, add-one, arith}
+use Rattle.std.specs.List.{flat_map}
+use Rattle.std.specs.Option.{option_map_or}
+use Rattle.std.proofs.lemmas.Grind.{flat_map-append}
+use Rattle.std.proofs.lemmas.List.{drop_more}
+use Rattle.std.proofs.lemmas.Option.{slice_get_within, get_or_from_slice_get}
+use Rattle.vital_library.specs.Gathered.{GivesLibrary}
+use Rattle.vital_library.specs.Units.{entities}
+use Rattle.vital_library.specs.declared.error.LibraryError.{LibraryError}
+use Rattle.vital_library.specs.declared.error.LibraryError.TheVariants as library
+use Rattle.vital_report.specs.Lines.{Said, bytes_of}
+use Rattle.vital_tool.specs.Answer.{Answer, text_of}
+use Rattle.vital_tool.specs.Cells.{entity_lines, entity_lines_at}
+use Rattle.vital_tool.specs.Refusals.{refused_at, IsLibraryRefusal}
+use Rattle.vital_tool.specs.Stages.{IsLibraryAnswer}
+use Rattle.vital_tool.specs.declared.loading.Source.{Source}
+use Rattle.vital_tool.specs.declared.refusal.Refusal.{Refusal}
+use Rattle.vital_words.specs.declared.job.Job.{Job}
+use Rattle.vital_vhdl.specs.declared.unit.Units.{Units}
+
+-- the line of the next of some things, and then those of the others
+pub one_line : {A : Type 0} (line : A → Said) (xs : List A) (i : ℕ) (x : A) → slice_get xs i ≡ Some x
+    → text_of (map line (drop i xs)) ≡ bytes_of (line x) ++ text_of (map line (drop (i + 1) xs))
+one_line {A} line xs i x at =
+    ap (λ (ys : List A). text_of (map line ys)) (drop_more xs i x (slice_get_within xs i x at))
+    ∙ ap (λ (y : A). bytes_of (line y) ++ text_of (map line (drop (i + 1) xs))) (get_or_from_slice_get xs i x x at)
+
+lines_from : {A : Type 0} (lines : A → List Said) (xs : List A) (i : ℕ) → i < length xs
+    → text_of (flat_map lines (drop i xs)) ≡ text_of (option_map_or lines (slice_get xs i) []) ++ text_of (flat_map lines (drop (suc i) xs))
+lines_from lines [] i lt = absurd (omega arith)
+lines_from lines (x ∷ xs) zero lt = flat_map-append bytes_of (lines x) (flat_map lines xs)
+lines_from lines (x ∷ xs) (suc i) lt = lines_from lines xs i (omega arith)
+
+-- the lines of the next entity, and then those of the others
+pub one_entity : (files : List Units) (i : ℕ) → i < length (entities files)
+    → text_of (flat_map (entity_lines files) (drop i (entities files))) ≡ text_of (entity_lines_at files i) ++ text_of (flat_map (entity_lines files) (drop (i + 1) (entities files)))
+one_entity files i lt = rw (add-one i) (lines_from (entity_lines files) (entities files) i lt)
+
+one_refusal : (error : LibraryError) (a b : Refusal) → IsLibraryRefusal error a → IsLibraryRefusal error b → a ≡ b
+one_refusal (library.TooManyUnits place) a b is also = is ∙ sym also
+one_refusal (library.Duplicate place) a b is also = is ∙ sym also
+one_refusal (library.NoEntity place) a b is also = is ∙ sym also
+one_refusal library.NoMemory a b is also = absurd is
+
+gives_error : (error : LibraryError) (outcome : Result (List Units) LibraryError) (refusal : Refusal) → IsLibraryRefusal error refusal → GivesLibrary (Err error) outcome → outcome ≡ Err error
+gives_error (library.TooManyUnits place) outcome refusal is gives = gives
+gives_error (library.Duplicate place) outcome refusal is gives = gives
+gives_error (library.NoEntity place) outcome refusal is gives = gives
+gives_error library.NoMemory outcome refusal is gives = absurd is
+
+-- what is answered to files that are no library is their refusal
+pub library_refused : (job : Job) (sources : List Source) (error : LibraryError) (outcome : Result (List Units) LibraryError) (refusal : Refusal) → GivesLibrary (Err error) outcome → IsLibraryRefusal error refusal
+    → (answer : Answer) → IsLibraryAnswer job sources outcome answer → answer ≡ refused_at job.files refusal
+library_refused job sources error outcome refusal gives is answer h =
+    let said = subst (λ (o : Result (List Units) LibraryError). IsLibraryAnswer job sources o answer) (gives_error error outcome refusal is gives) h in
+    said.2 ∙ ap (refused_at job.files) (one_refusal error said.0 refusal said.1 is)

@@ -1,6 +1,0 @@
-use Rattle.std.proofs.Common.{◌≡◌, ◌+◌, [], take, drop}
-use Rattle.vital_tool.specs.Words.{first_refusal}
-use Rattle.vital_tool.proofs.words.first_refusal.Given as goal
-
-abbrev pub invariant-loop-i : goal.invariant-loop-i
-invariant-loop-i l = first_refusal l.keys (take l.i l.words) (l.i + 2) (drop l.i l.words) ≡ first_refusal l.keys [] 2 l.words

@@ -1,0 +1,40 @@
+-- How what the calls of the stages return is read.
+use Rattle.std.specs.Prelude.{ℕ, ◌≡◌, List, Option, Some, None, Result, Ok, Err}
+use Rattle.vital_library.specs.declared.error.LibraryError.{LibraryError}
+use Rattle.vital_library.specs.declared.error.LibraryError.TheVariants as library
+use Rattle.vital_tool.specs.Answer.{Answer}
+use Rattle.vital_tool.specs.Loading.{too_long}
+use Rattle.vital_tool.specs.Refusals.{IsFileRefusal, IsLibraryRefusal}
+use Rattle.vital_tool.specs.declared.loading.NotLoaded.{NotLoaded}
+use Rattle.vital_tool.specs.declared.loading.NotLoaded.TheVariants as loading
+use Rattle.vital_tool.specs.declared.loading.Source.{Source}
+use Rattle.vital_tool.specs.declared.reading.Unread.{Unread}
+use Rattle.vital_tool.specs.declared.reading.Unread.TheVariants as reading
+use Rattle.vital_tool.specs.declared.refusal.Refusal.{Refusal}
+use Rattle.vital_vhdl.specs.declared.reading.UnitError.{UnitError}
+use Rattle.vital_vhdl.specs.declared.unit.Units.{Units}
+
+-- Files were loaded as defined, unless the shelf failed or memory ran out.
+abbrev pub GivesSources : Result (List Source) NotLoaded → Result (List Source) Answer → Type 0
+GivesSources (Ok sources) outcome = outcome ≡ Ok sources
+GivesSources (Err (loading.TooLong name)) outcome = outcome ≡ Err (too_long name.now)
+GivesSources (Err loading.ReadFault) outcome = Unit {0}
+GivesSources (Err loading.NoMemory) outcome = Unit {0}
+
+-- What came of reading the first of some files is this, unless memory ran out.
+abbrev pub GivesFirst : ℕ → List ℕ → Result Units Unread → Result Units UnitError → Type 0
+GivesFirst number text (Ok units) first = first ≡ Ok units
+GivesFirst number text (Err (reading.Refused refusal)) first =
+    (error : UnitError) × (first ≡ Err error) × IsFileRefusal number text error refusal
+GivesFirst number text (Err reading.NoMemory) first = Unit {0}
+
+-- What came of reading files is this, unless memory ran out.
+abbrev pub GivesUnits : Result (List Units) Unread → Result (List Units) Refusal → Type 0
+GivesUnits (Ok units) outcome = outcome ≡ Ok units
+GivesUnits (Err (reading.Refused refusal)) outcome = outcome ≡ Err refusal
+GivesUnits (Err reading.NoMemory) outcome = Unit {0}
+
+-- What a library that is refused is refused with, unless memory ran out.
+abbrev pub GivesRefusal : LibraryError → Option Refusal → Type 0
+GivesRefusal error (Some refusal) = IsLibraryRefusal error refusal
+GivesRefusal error None = error ≡ library.NoMemory

@@ -1,0 +1,136 @@
+//! The stages of a job, in their order.
+
+ghost use Rattle.std.specs.Prelude.{◌≡◌, ◌≤◌, length, All, Ok};
+ghost use Rattle.vital_library.specs.Gathered.{gathered};
+ghost use Rattle.vital_tool.specs.Loading.{all_loaded};
+ghost use Rattle.vital_tool.specs.Outcome.{Prints, Runs};
+ghost use Rattle.vital_tool.specs.Stages.{IsLibraryAnswer, IsLoadedAnswer, task_answer};
+ghost use Rattle.vital_tool.specs.Writes.{ready};
+ghost use Rattle.vital_words.specs.Given.{NamesIn};
+
+use crate::cells::put_cells;
+use crate::lines::refuse_long;
+use crate::loading::{NotLoaded, Source, load_files};
+use crate::reading::{Unread, read_files};
+use crate::refusal::{library_refusal, refuse_files};
+use crate::status::Status;
+use crate::stimuli::play_text;
+use std::alloc::Global;
+use vital_base::{List, Shelf, Sink, WriteFault};
+use vital_library::{Library, gather};
+use vital_report::Reporter;
+use vital_vhdl::Units;
+use vital_words::{Job, Task};
+
+/// Runs a job: its files are loaded, and then come the other stages.
+pub fn run_job<S: Shelf, K: Sink>(
+    alloc: Global,
+    job: &Job,
+    shelf: &mut S,
+    report: &mut Reporter,
+    sink: &mut K,
+) -> Status
+    requires few { length job.now.files ≤ 16 }
+    requires names_in { NamesIn job.now }
+    requires ready { report.old ≡ ready }
+    ensures { Runs (λ files. IsLoadedAnswer job.now (all_loaded files job.now.files)) result
+        (S.files shelf.old) (S.is_steady shelf.old) (S.faults shelf.old) (S.faults shelf.new)
+        (record { told = K.bytes sink.old; faults = K.faults sink.old })
+        (record { told = K.bytes sink.new; faults = K.faults sink.new }) }
+{
+    match load_files(alloc, job.files.as_slice(), shelf) {
+        Ok(sources) => run_sources(alloc, job, &sources, report, sink),
+        Err(NotLoaded::ReadFault) => Status::ReadFault,
+        Err(NotLoaded::TooLong(file)) => refuse_long(file, report, sink),
+        Err(NotLoaded::NoMemory) => Status::NoMemory,
+    }
+}
+
+/// Runs a job whose files were loaded: they are read, and then come the other stages.
+fn run_sources<K: Sink>(
+    alloc: Global,
+    job: &Job,
+    sources: &List<Source>,
+    report: &mut Reporter,
+    sink: &mut K,
+) -> Status
+    requires few { length sources.now ≤ 16 }
+    requires within { All (λ source. length source.text ≤ 16_777_216) sources.now }
+    requires count { length sources.now ≡ length job.now.files }
+    requires names_in { NamesIn job.now }
+    requires ready { report.old ≡ ready }
+    ensures { Prints (IsLoadedAnswer job.now (Ok sources.now)) result
+        (record { told = K.bytes sink.old; faults = K.faults sink.old })
+        (record { told = K.bytes sink.new; faults = K.faults sink.new }) }
+{
+    match read_files(alloc, sources.as_slice()) {
+        Ok(units) => run_units(alloc, job, sources, units, report, sink),
+        Err(Unread::Refused(refusal)) => {
+            refuse_files(alloc, job.files.as_slice(), refusal, report, sink)
+        }
+        Err(Unread::NoMemory) => Status::NoMemory,
+    }
+}
+
+/// Runs a job whose files were read: they are joined into a library, and then comes its task.
+fn run_units<K: Sink>(
+    alloc: Global,
+    job: &Job,
+    sources: &List<Source>,
+    units: List<Units>,
+    report: &mut Reporter,
+    sink: &mut K,
+) -> Status
+    requires within { All (λ source. length source.text ≤ 16_777_216) sources.now }
+    requires count { length sources.now ≡ length job.now.files }
+    requires names_in { NamesIn job.now }
+    requires ready { report.old ≡ ready }
+    ensures { Prints (IsLibraryAnswer job.now sources.now (gathered units)) result
+        (record { told = K.bytes sink.old; faults = K.faults sink.old })
+        (record { told = K.bytes sink.new; faults = K.faults sink.new }) }
+{
+    match gather(alloc, units) {
+        Ok(library) => run_task(alloc, job, sources, &library, report, sink),
+        Err(error) => match library_refusal(error) {
+            Some(refusal) => refuse_files(alloc, job.files.as_slice(), refusal, report, sink),
+            None => Status::NoMemory,
+        },
+    }
+}
+
+/// Does what a job asks for with its files and their library.
+fn run_task<K: Sink>(
+    alloc: Global,
+    job: &Job,
+    sources: &List<Source>,
+    library: &Library,
+    report: &mut Reporter,
+    sink: &mut K,
+) -> Status
+    requires within { All (λ source. length source.text ≤ 16_777_216) sources.now }
+    requires count { length sources.now ≡ length job.now.files }
+    requires names_in { NamesIn job.now }
+    requires ready { report.old ≡ ready }
+    ensures { Prints (λ answer. answer ≡ task_answer job.now.task job.now.files sources.now library.now) result
+        (record { told = K.bytes sink.old; faults = K.faults sink.old })
+        (record { told = K.bytes sink.new; faults = K.faults sink.new }) }
+{
+    match job.task {
+        Task::Play(play) => {
+            let file = &job.files.as_slice()[play.stim];
+            let source = &sources.as_slice()[play.stim];
+            play_text(
+                alloc,
+                &file.name,
+                play.until,
+                source.text.as_slice(),
+                report,
+                sink,
+            )
+        }
+        Task::Check => match put_cells(library, report, sink) {
+            Ok(()) => Status::Done,
+            Err(WriteFault) => Status::WriteFault,
+        },
+    }
+}

@@ -1,0 +1,24 @@
+-- How what `read_job` gives is read.
+use Rattle.std.specs.Prelude.{◌≡◌, ◌<◌, List, length, Result, Ok, Err}
+use Rattle.vital_words.specs.declared.job.Job.{Job}
+use Rattle.vital_words.specs.declared.job.JobError.{JobError}
+use Rattle.vital_words.specs.declared.job.JobError.TheVariants.{Usage, NoMemory}
+use Rattle.vital_words.specs.declared.job.NamedFile.{NamedFile}
+use Rattle.vital_words.specs.declared.job.Task.{Task}
+use Rattle.vital_words.specs.declared.job.Task.TheVariants.{Play, Check}
+use Rattle.vital_words.specs.declared.refusal.UsageFault.{UsageFault}
+
+-- What was returned is the defined job or fault, unless memory ran out.
+abbrev pub GivesJob : Result Job JobError → Result Job UsageFault → Type 0
+GivesJob (Ok found) defined = defined ≡ Ok found
+GivesJob (Err (Usage fault)) defined = defined ≡ Err fault
+GivesJob (Err NoMemory) defined = Unit {0}
+
+-- The files that a task names by number are among these.
+abbrev pub AreIn : List NamedFile → Task → Type 0
+AreIn files (Play play) = play.stim < length files
+AreIn files Check = Unit {0}
+
+-- The files that the task of a job names by number are among its files.
+abbrev pub NamesIn : Job → Type 0
+NamesIn job = AreIn job.files job.task

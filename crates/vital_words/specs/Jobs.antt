@@ -1,0 +1,73 @@
+-- What the words of a command line ask for.
+use Rattle.std.specs.Prelude.{ℕ, Bool, true, false, List, [], ◌∷◌, position, Option, Some, None, Result, Ok, Err}
+use Rattle.std.specs.List.{filter_map}
+use Rattle.vital_words.specs.Commands.{command_named, rules_of}
+use Rattle.vital_words.specs.Keys.{◌>>=◌, value_in, value_of, end_time}
+use Rattle.vital_words.specs.Refusals.{first_fault, missing}
+use Rattle.vital_words.specs.declared.command.Command.{Command}
+use Rattle.vital_words.specs.declared.command.Command.TheVariants as command
+use Rattle.vital_words.specs.declared.command.KeyRule.{KeyRule}
+use Rattle.vital_words.specs.declared.job.Job.{Job}
+use Rattle.vital_words.specs.declared.job.NamedFile.{NamedFile}
+use Rattle.vital_words.specs.declared.job.Task.{Task}
+use Rattle.vital_words.specs.declared.job.Task.TheVariants.{Play, Check}
+use Rattle.vital_words.specs.declared.key.FileKind.{FileKind}
+use Rattle.vital_words.specs.declared.key.FileKind.TheVariants.{Lib, Stim}
+use Rattle.vital_words.specs.declared.key.Key.{Key}
+use Rattle.vital_words.specs.declared.key.Key.TheVariants.{File, Until}
+use Rattle.vital_words.specs.declared.refusal.UsageFault.{UsageFault}
+use Rattle.vital_words.specs.declared.refusal.UsageWhy.TheVariants as why
+
+-- The file that a word names by this key, where it gives a value to it, or else by another key.
+abbrev pub file_or : Key → Option (List ℕ) → Option NamedFile → Option NamedFile
+file_or (File kind) (Some name) others = Some (record { kind = kind; name = name })
+file_or (File kind) None others = others
+file_or Until value others = others
+
+-- The file that a word names, where its key is one for files.
+abbrev pub file_in : List KeyRule → List ℕ → Option NamedFile
+file_in [] word = None
+file_in (rule ∷ rules) word = file_or rule.key (value_in rule.key word) (file_in rules word)
+
+abbrev pub is_stim_kind : FileKind → Bool
+is_stim_kind Lib = false
+is_stim_kind Stim = true
+
+-- Is it a stimulus file?
+abbrev pub is_stim : NamedFile → Bool
+is_stim file = is_stim_kind file.kind
+
+-- What a command does with these files, which the words after it name.
+abbrev pub task_of : Command → List NamedFile → List (List ℕ) → Option Task
+task_of command.Play files words = do
+  stim ← position is_stim files
+  value ← value_of Until words
+  until ← end_time value
+  Some (Play (record { stim = stim; until = until }))
+task_of command.Check files words = Some Check
+
+-- The job of these files, or a fault.
+abbrev pub job_or : List NamedFile → UsageFault → Option Task → Result Job UsageFault
+job_or files missing None = Err missing
+job_or files missing (Some task) = Ok (record { files = files; task = task })
+
+-- The job, where the words have no fault.
+abbrev pub unless : Option UsageFault → Result Job UsageFault → Result Job UsageFault
+unless (Some fault) found = Err fault
+unless None found = found
+
+-- What the words after a command ask for.
+abbrev pub job_of : Command → List (List ℕ) → Result Job UsageFault
+job_of command words =
+    let files = filter_map (file_in (rules_of command)) words in
+    unless (first_fault (rules_of command) words) (job_or files (missing words) (task_of command files words))
+
+-- The job of a command's words, where it is a command.
+abbrev pub job_named : Option Command → List (List ℕ) → Result Job UsageFault
+job_named None words = Err (record { word = 1; why = why.Command })
+job_named (Some command) words = job_of command words
+
+-- What the words ask for, or the first fault from left to right.
+abbrev pub job : List (List ℕ) → Result Job UsageFault
+job [] = job_named None []
+job (command ∷ words) = job_named (command_named command) words

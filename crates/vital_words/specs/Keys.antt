@@ -1,0 +1,61 @@
+-- The keys of words, and the values that words give to them.
+use Rattle.std.specs.Prelude.{ℕ, ◌+◌, ◌==◌, ◌&&◌, Bool, not, nat_le, List, length, take, drop, position, slice_get, Option, Some, None, codes, if◌then◌else◌}
+use Rattle.std.specs.Char.{is_ascii_digit}
+use Rattle.std.specs.List.{list_all, filter_map}
+use Rattle.std.specs.Option.{is_some, option_map}
+use Rattle.std.specs.Str.{bytes_eq}
+use Rattle.vital_base.specs.Times.{number_of, unit_named, time_of}
+use Rattle.vital_words.specs.declared.key.FileKind.{FileKind}
+use Rattle.vital_words.specs.declared.key.FileKind.TheVariants.{Lib, Stim}
+use Rattle.vital_words.specs.declared.key.Key.{Key}
+use Rattle.vital_words.specs.declared.key.Key.TheVariants.{File, Until}
+
+infixl 10 ◌>>=◌
+abbrev pub ◌>>=◌ : {A B : Type 0} → Option A → (A → Option B) → Option B
+None >>= f = None
+(Some x) >>= f = f x
+
+-- A file's name: 1 to 4,096 bytes, none below 0x20.
+abbrev pub is_file_name : List ℕ → Bool
+is_file_name value = nat_le 1 (length value) && nat_le (length value) 4_096 && list_all (nat_le 32) value
+
+-- An end time: 1 to 19 digits, followed at once by a unit, worth at most 2^60 fs.
+abbrev pub end_time : List ℕ → Option ℕ
+end_time value = do
+  digits ← position (λ byte. not (is_ascii_digit byte)) value
+  number ← number_of (take digits value)
+  unit ← unit_named (drop digits value)
+  time_of number unit
+
+-- How the key of a file is written.
+abbrev pub file_key : FileKind → List ℕ
+file_key Lib = codes "lib"
+file_key Stim = codes "stim"
+
+-- How a key is written.
+abbrev pub name_of : Key → List ℕ
+name_of (File kind) = file_key kind
+name_of Until = codes "until"
+
+-- Which values a key takes.
+abbrev pub is_good : Key → List ℕ → Bool
+is_good (File kind) value = is_file_name value
+is_good Until value = is_some (end_time value)
+
+-- The key and the value of a word, which its first `=` parts.
+abbrev pub parts : List ℕ → Option (List ℕ × List ℕ)
+parts word = option_map (λ at. (take at word, drop (at + 1) word)) (position (λ byte. byte == 61) word)
+
+-- The value that a word gives to a key, where it does.
+abbrev pub value_in : Key → List ℕ → Option (List ℕ)
+value_in key word = do
+  both ← parts word
+  if bytes_eq both.0 (name_of key) then Some both.1 else None
+
+-- Does a word give a value to a key?
+abbrev pub is_for : Key → List ℕ → Bool
+is_for key word = is_some (value_in key word)
+
+-- The first value that words give to a key.
+abbrev pub value_of : Key → List (List ℕ) → Option (List ℕ)
+value_of key words = slice_get (filter_map (value_in key) words) 0

@@ -1,0 +1,69 @@
+//! The commands, and their keys.
+
+ghost use Rattle.std.specs.Prelude.{◌≡◌};
+ghost use Rattle.vital_words.specs.Commands.{command_named, rules_of};
+
+use crate::key::{FileKind, Key};
+
+/// A command. It is the first word.
+#[derive(Clone, Copy, Debug, PartialEq, Eq)]
+pub enum Command {
+    /// Play a stimulus file.
+    Play,
+    /// Check the cells of a library.
+    Check,
+}
+
+/// How a command takes a key.
+#[derive(Clone, Copy, Debug, PartialEq, Eq)]
+pub struct KeyRule {
+    pub key: Key,
+    /// How often the key may come.
+    pub most: usize,
+    /// Must it come?
+    pub is_required: bool,
+}
+
+/// The stimulus file of a run.
+const STIM: KeyRule = KeyRule {
+    key: Key::File(FileKind::Stim),
+    most: 1,
+    is_required: true,
+};
+
+/// The end time of a run.
+const UNTIL: KeyRule = KeyRule {
+    key: Key::Until,
+    most: 1,
+    is_required: true,
+};
+
+/// The files of a library.
+const LIB: KeyRule = KeyRule {
+    key: Key::File(FileKind::Lib),
+    most: 16,
+    is_required: true,
+};
+
+impl Command {
+    /// The command that is written so.
+    pub fn named(word: &[u8]) -> Option<Command>
+        ensures { result ≡ command_named word.now }
+    {
+        match word {
+            b"play" => Some(Command::Play),
+            b"check" => Some(Command::Check),
+            _ => None,
+        }
+    }
+
+    /// How it takes its keys. A key that stands in none of these rules is none of its keys.
+    pub fn rules(self) -> &'static [KeyRule]
+        ensures { result.now ≡ rules_of self }
+    {
+        match self {
+            Command::Play => &[STIM, UNTIL],
+            Command::Check => &[LIB],
+        }
+    }
+}

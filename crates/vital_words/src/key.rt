@@ -1,0 +1,143 @@
+//! The keys of words, and the values that words give to them.
+
+ghost use Rattle.std.specs.Prelude.{◌≡◌, ◌<◌, ◌==◌, not, nat_le, length, position, IfSome, count_by};
+ghost use Rattle.std.specs.Char.{is_ascii_digit};
+ghost use Rattle.std.specs.List.{list_all};
+ghost use Rattle.std.specs.Option.{option_map, option_copied};
+ghost use Rattle.vital_words.specs.Keys.{name_of, file_key, is_good, is_file_name, end_time, parts, value_in, is_for, value_of};
+
+use vital_base::{Time, TimeUnit, Word, read_number};
+
+/// How many bytes the name of a file may have.
+const LONGEST_FILE_NAME: usize = 4_096;
+
+/// What a file is read as.
+#[derive(Clone, Copy, Debug, PartialEq, Eq)]
+pub enum FileKind {
+    /// VHDL of a cell library.
+    Lib,
+    /// Stimuli.
+    Stim,
+}
+
+/// A key of a word.
+#[derive(Clone, Copy, Debug, PartialEq, Eq)]
+pub enum Key {
+    /// A file of a kind.
+    File(FileKind),
+    /// The end time.
+    Until,
+}
+
+impl Key {
+    /// How it is written.
+    fn name(self) -> &'static [u8]
+        ensures { result.now ≡ name_of self }
+    {
+        match self {
+            Key::File(kind) => file_key(kind),
+            Key::Until => b"until",
+        }
+    }
+
+    /// Does it take this value?
+    pub fn takes(self, value: &[u8]) -> bool
+        ensures { result ≡ is_good self value.now }
+    {
+        match self {
+            Key::File(_) => is_file_name(value),
+            Key::Until => end_time(value).is_some(),
+        }
+    }
+
+    /// The value that a word gives to it.
+    pub fn value_in(self, word: &[u8]) -> Option<&[u8]>
+        ensures { option_copied result ≡ value_in self word.now }
+    {
+        let (key, value) = parts(word)?;
+        if key == self.name() {
+            Some(value)
+        } else {
+            None
+        }
+    }
+
+    /// How many words give a value to it.
+    pub fn count(self, words: &[Word]) -> usize
+        ensures { result ≡ count_by (is_for self) words.now }
+    {
+        words
+            .iter()
+            .filter(|word| self.value_in(word.as_slice()).is_some())
+            .count()
+    }
+
+    /// The value that the first word for it gives to it.
+    pub fn value(self, words: &[Word]) -> Option<&[u8]>
+        ensures { option_copied result ≡ value_of self words.now }
+    {
+        for word in words {
+            if let Some(value) = self.value_in(word.as_slice()) {
+                return Some(value);
+            }
+        }
+        None
+    }
+}
+
+/// How the key of a file is written.
+fn file_key(kind: FileKind) -> &'static [u8]
+    ensures { result.now ≡ file_key kind }
+{
+    match kind {
+        FileKind::Lib => b"lib",
+        FileKind::Stim => b"stim",
+    }
+}
+
+fn is_file_name(value: &[u8]) -> bool
+    ensures { result ≡ is_file_name value.now }
+{
+    if value.is_empty() || value.len() > LONGEST_FILE_NAME {
+        return false;
+    }
+    all_printable(value)
+}
+
+fn all_printable(bytes: &[u8]) -> bool
+    ensures { result ≡ list_all (nat_le 32) bytes.now }
+{
+    bytes.iter().all(|byte| 32 <= *byte)
+}
+
+/// The end time that a value writes, in femtoseconds.
+pub fn end_time(value: &[u8]) -> Option<Time>
+    ensures { result ≡ end_time value.now }
+{
+    let digits = first_non_digit(value)?;
+    let number = read_number(&value[..digits])?;
+    let unit = TimeUnit::named(&value[digits..])?;
+    unit.time(number)
+}
+
+fn first_non_digit(bytes: &[u8]) -> Option<usize>
+    ensures at { result ≡ position (λ byte. not (is_ascii_digit byte)) bytes.now }
+    ensures within { IfSome result (λ at. at < length bytes.now) }
+{
+    bytes.iter().position(|byte| !byte.is_ascii_digit())
+}
+
+/// The key and the value of a word, which its first `=` parts.
+fn parts(word: &[u8]) -> Option<(&[u8], &[u8])>
+    ensures { option_map (λ both. (both.0.now, both.1.now)) result ≡ parts word.now }
+{
+    let at = first_equals_sign(word)?;
+    Some((&word[..at], &word[at + 1..]))
+}
+
+fn first_equals_sign(word: &[u8]) -> Option<usize>
+    ensures at { result ≡ position (λ byte. byte == 61) word.now }
+    ensures within { IfSome result (λ at. at < length word.now) }
+{
+    word.iter().position(|byte| *byte == b'=')
+}

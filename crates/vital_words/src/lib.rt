@@ -1,0 +1,14 @@
+//! The words of a command line: the commands with their keys, and the job that words ask for.
+#![tactic(auto)]
+
+mod command;
+mod job;
+mod key;
+mod refusal;
+#[cfg(test)]
+mod tests;
+
+pub use command::{Command, KeyRule};
+pub use job::{Job, JobError, NamedFile, Play, Task, read_job};
+pub use key::{FileKind, Key};
+pub use refusal::{UsageFault, UsageWhy};

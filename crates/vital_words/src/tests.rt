@@ -1,0 +1,123 @@
+//! Words, and the jobs that they ask for.
+
+use crate::job::{JobError, NamedFile, Task, read_job};
+use crate::key::FileKind;
+use crate::refusal::{UsageFault, UsageWhy};
+use std::alloc::{AllocError, Global};
+use std::test::Fail;
+use vital_base::Word;
+
+fn words_of(alloc: Global, words: &[&str]) -> Result<Vec<Word>, AllocError> {
+    let mut all = Vec::new(alloc);
+    for word in words {
+        all.push(Word::new(Vec::from_slice(alloc, word.as_bytes())?))?;
+    }
+    Ok(all)
+}
+
+/// Words that are refused, with the number of the first that is.
+const REFUSED: [(&[&str], u64, UsageWhy); 17] = [
+    (&[], 1, UsageWhy::Command),
+    (&["--help"], 1, UsageWhy::Command),
+    (&["Play", "stim=s", "until=1ns"], 1, UsageWhy::Command),
+    (&["play", "stim"], 2, UsageWhy::Key),
+    (&["play", "stim=s", "lib=a"], 3, UsageWhy::Key),
+    (&["check", "lib=a", "stim=s"], 3, UsageWhy::Key),
+    (
+        &["play", "until=1ns", "stim=s", "until=2"],
+        4,
+        UsageWhy::Twice,
+    ),
+    (&["play", "stim="], 2, UsageWhy::Value),
+    (&["play", "stim=\t"], 2, UsageWhy::Value),
+    (&["play", "stim=s", "until=1"], 3, UsageWhy::Value),
+    (&["play", "until=5NS"], 2, UsageWhy::Value),
+    (
+        &["play", "until=00000000000000000001fs"],
+        2,
+        UsageWhy::Value,
+    ),
+    (&["play", "until=1152921504606846977fs"], 2, UsageWhy::Value),
+    (&["play", "stim=s"], 3, UsageWhy::Missing),
+    (&["play", "until=1ns"], 3, UsageWhy::Missing),
+    (&["play"], 2, UsageWhy::Missing),
+    (&["check"], 2, UsageWhy::Missing),
+];
+
+#[test]
+fn words_are_refused(rt: HostRuntime) -> Result<(), Fail> {
+    for (words, word, why) in REFUSED.iter() {
+        let words = words_of(rt.alloc(), words)?;
+        let fault = UsageFault {
+            word: *word,
+            why: *why,
+        };
+        assert!(rt;
+            matches!(read_job(rt.alloc(), &words), Err(JobError::Usage(found)) if found == fault),
+            "at {fault:?}"
+        );
+    }
+    Ok(())
+}
+
+/// The word `play`, and the end time that is meant, in femtoseconds.
+const ENDS: [(&str, u64); 5] = [
+    ("until=0fs", 0),
+    ("until=005ps", 5_000),
+    ("until=25us", 25_000_000_000),
+    ("until=1ms", 1_000_000_000_000),
+    ("until=1152921504606846976fs", 1_152_921_504_606_846_976),
+];
+
+#[test]
+fn end_times_are_read(rt: HostRuntime) -> Result<(), Fail> {
+    for (word, time) in ENDS.iter() {
+        let words = words_of(rt.alloc(), &["play", word, "stim=a=b"])?;
+        let job = read_job(rt.alloc(), &words).map_err(|_| "refused")?;
+        assert!(rt;
+            matches!(job.task, Task::Play(play) if play.until == *time && play.stim == 0),
+            "at {word}"
+        );
+        assert_eq!(rt; name_bytes(job.files.as_slice(), FileKind::Stim), 3);
+    }
+    Ok(())
+}
+
+/// How many bytes the names of the files of a kind have in all.
+fn name_bytes(files: &[NamedFile], kind: FileKind) -> usize {
+    let mut count = 0usize;
+    for file in files {
+        if file.kind == kind {
+            count = count.saturating_add(file.name.as_slice().len());
+        }
+    }
+    count
+}
+
+/// As many files as there may be, each with the longest name; and then one file more, and one byte more.
+#[test]
+fn limits_are_kept(rt: HostRuntime) -> Result<(), Fail> {
+    let alloc = rt.alloc();
+    let mut longest = String::from_str(alloc, "lib=")?;
+    for _ in 0..4_096 {
+        longest.push_str("n")?;
+    }
+    let mut words = words_of(alloc, &["check"])?;
+    for _ in 0..16 {
+        words.push(Word::new(longest.clone()?.into_bytes()))?;
+    }
+    let job = read_job(alloc, &words).map_err(|_| "refused")?;
+    assert_eq!(rt; name_bytes(job.files.as_slice(), FileKind::Lib), 65_536);
+
+    words.push(Word::new(longest.clone()?.into_bytes()))?;
+    assert!(rt;
+        matches!(read_job(alloc, &words), Err(JobError::Usage(found)) if found == UsageFault { word: 18, why: UsageWhy::Twice })
+    );
+
+    longest.push_str("n")?;
+    let words = words_of(alloc, &["check", longest.as_str()])?;
+    assert!(rt;
+        matches!(read_job(alloc, &words), Err(JobError::Usage(found)) if found == UsageFault { word: 2, why: UsageWhy::Value })
+    );
+    Ok(())
+}
