@@ -1,24 +1,22 @@
 -- What holds between two cycles of a run.
-use Rattle.std.proofs.Common.{◌≡◌, ℕ, ◌+◌, ◌-◌, ◌^◌, ◌<◌, ◌≤◌, cond, List, ◌++◌, length, map, Some, None, ◌⊎◌, inl, inr, sym, ap, subst, ◌∙◌, arith}
-use Rattle.std.specs.Prelude.{◌==◌}
+use Rattle.std.proofs.Common.{◌≡◌, ℕ, ◌+◌, ◌-◌, ◌^◌, ◌<◌, ◌≤◌, List, ◌++◌, length, map, Some, None, ◌⊎◌, inl, inr, sym, ap, subst, ◌∙◌, arith}
 use Rattle.std.specs.List.{flat_map}
 use Rattle.std.proofs.lemmas.Grind.{flat_map-append}
 use Rattle.std.proofs.lemmas.List.{length-map}
 use Rattle.vital_base.specs.declared.ports.PortBit.{PortBit}
 use Rattle.vital_report.specs.Reporters.{ReporterState}
 use Rattle.vital_tool.specs.Driver.{Driver, AllRise, advance, pending_count}
-use Rattle.vital_tool.specs.Run.{cycles, due, events}
-use Rattle.vital_tool.specs.Play.{port_signals}
-use Rattle.vital_tool.specs.PlayText.{cycle_text}
-use Rattle.vital_tool.specs.Stimuli.{text_of_event, unasked}
+use Rattle.vital_tool.specs.Ports.{cycles, cycle_text, due, port_events}
+use Rattle.vital_tool.specs.Run.{delta_at}
+use Rattle.vital_tool.specs.Stimuli.{text_of_event}
 use Rattle.vital_tool.specs.Writes.{SinkState, ready, WritesAll}
-use Rattle.vital_tool.proofs.CycleStates.{state_of, cycles_step, cycles_end, due_next}
+use Rattle.vital_tool.proofs.CycleStates.{cycles_step, cycles_end, due_next}
 use Rattle.vital_tool.proofs.Least.{all_rise_next, all_rise_after, all_rise_lower, next_is_above, fewer_pending}
 use Rattle.vital_tool.proofs.Parts.{Part, part_goes_on, part_ends}
 
 -- the text of the cycles that are left
 abbrev pub left_text : ℕ → List PortBit → ℕ → ℕ → ℕ → List Driver → List ℕ
-left_text most ports until now delta ds = flat_map text_of_event (cycles most unasked (port_signals 0 ports) until (state_of now delta ds))
+left_text most ports until now delta ds = flat_map text_of_event (cycles most ports until now delta ds)
 
 -- the text of the cycles that are left is the rest of the whole, and only the first cycle can come at the present time
 pub record CyclesLeft (ports : List PortBit) (until : ℕ) (start : SinkState) (whole : List ℕ) (now delta : ℕ) (ds : List Driver) (sink : SinkState) (reporter : ReporterState) : Type 0 where
@@ -37,17 +35,17 @@ pub record Comes (ports : List PortBit) (until : ℕ) (start : SinkState) (whole
   pub rise : AllRise time ds
   pub room : time ≡ now → delta < 2 ^ 64 - 1
   pub fewer : pending_count (map (advance time) ds) < pending_count ds
-  pub part : Part start whole (cycle_text time (cond (time == now) (delta + 1) 0) ports ds ++ left_text left ports until time (cond (time == now) (delta + 1) 0) (map (advance time) ds)) sink
+  pub part : Part start whole (cycle_text time (delta_at time now delta) ports ds ++ left_text left ports until time (delta_at time now delta) (map (advance time) ds)) sink
 
 pub comes : (ports : List PortBit) (until : ℕ) (start : SinkState) (whole : List ℕ) (now delta time : ℕ) (ds : List Driver) (sink : SinkState) (reporter : ReporterState)
     → CyclesLeft ports until start whole now delta ds sink reporter → due until ds ≡ Some time → Comes ports until start whole now delta time ds sink
 comes ports until start whole now delta time ds sink reporter h e =
     let next = due_next until time ds e in
-    let step = cycles_step h.most unasked ports until time now delta ds (sym h.one_each) h.enough e in
-    let number : ℕ = cond (time == now) (delta + 1) 0 in
+    let step = cycles_step h.most ports until time now delta ds h.enough e in
+    let number : ℕ = delta_at time now delta in
     let text : left_text h.most ports until now delta ds ≡ cycle_text time number ports ds ++ left_text step.left ports until time number (map (advance time) ds) =
     ap (flat_map text_of_event) step.next
-    ∙ flat_map-append text_of_event (events time number (port_signals 0 ports) (map (λ d. d.current) ds) (map (λ d. d.current) (map (advance time) ds))) (cycles step.left unasked (port_signals 0 ports) until (state_of time number (map (advance time) ds))) in
+    ∙ flat_map-append text_of_event (port_events time number ports ds) (cycles step.left ports until time number (map (advance time) ds)) in
     record {
       left = step.left;
       enough = step.enough;
@@ -62,10 +60,10 @@ comes ports until start whole now delta time ds sink reporter h e =
 
 -- after the cycle
 pub goes_on_after : (ports : List PortBit) (until : ℕ) (start : SinkState) (whole : List ℕ) (now delta time : ℕ) (ds : List Driver) (sink next : SinkState) (reporter : ReporterState) → length ports ≡ length ds
-    → Comes ports until start whole now delta time ds sink → WritesAll (cycle_text time (cond (time == now) (delta + 1) 0) ports ds) sink next reporter
-    → CyclesLeft ports until start whole time (cond (time == now) (delta + 1) 0) (map (advance time) ds) next reporter
+    → Comes ports until start whole now delta time ds sink → WritesAll (cycle_text time (delta_at time now delta) ports ds) sink next reporter
+    → CyclesLeft ports until start whole time (delta_at time now delta) (map (advance time) ds) next reporter
 goes_on_after ports until start whole now delta time ds sink next reporter len h w =
-    let number : ℕ = cond (time == now) (delta + 1) 0 in
+    let number : ℕ = delta_at time now delta in
     let later = all_rise_after time ds h.rise in
     record {
       most = h.left;
@@ -81,5 +79,5 @@ goes_on_after ports until start whole now delta time ds sink next reporter len h
 pub all_done : (ports : List PortBit) (until : ℕ) (start : SinkState) (whole : List ℕ) (now delta : ℕ) (ds : List Driver) (sink : SinkState) (reporter : ReporterState)
     → CyclesLeft ports until start whole now delta ds sink reporter → due until ds ≡ None → WritesAll whole start sink reporter
 all_done ports until start whole now delta ds sink reporter h e =
-    let none = ap (flat_map text_of_event) (cycles_end h.most unasked (port_signals 0 ports) until (state_of now delta ds) e) in
+    let none = ap (flat_map text_of_event) (cycles_end h.most ports until now delta ds e) in
     part_ends start whole sink reporter h.is_ready (subst (λ (rest : List ℕ). Part start whole rest sink) none h.part)

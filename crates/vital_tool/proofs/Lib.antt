@@ -6,7 +6,9 @@ pub mod Sending
 pub mod OneCycle
 pub mod Printing
 pub mod Loaded
+pub mod OneRun
 pub mod OneAnswer
+pub mod Rows
 pub mod CellsLeft
 pub mod FilesRead
 pub mod Parts

@@ -1,5 +1,5 @@
 -- Words and files have one answer, since each text has one reading.
-use Rattle.std.proofs.Common.{◌≡◌, ℕ, ◌+◌, ◌-◌, List, [], ◌∷◌, Option, Some, None, Result, Ok, Err, refl, sym, ap, subst, ◌∙◌}
+use Rattle.std.proofs.Common.{◌≡◌, ℕ, ◌+◌, ◌-◌, List, [], ◌∷◌, map, Option, Some, None, Result, Ok, Err, refl, ap, subst, ◌∙◌}
 use Rattle.std.specs.List.{slice_get}
 use Rattle.vital_base.specs.Shelves.{Files}
 use Rattle.vital_base.specs.declared.place.Place.{Place}
@@ -14,17 +14,27 @@ use Rattle.vital_library.specs.declared.fault.FaultKind.{FaultKind}
 use Rattle.vital_library.specs.declared.fault.FaultKind.TheVariants.{Duplicate, NoEntity}
 use Rattle.vital_report.specs.declared.line.LibraryWhy.TheVariants as why
 use Rattle.vital_report.specs.declared.line.Limit.TheVariants.{Units as UnitsLimit}
-use Rattle.vital_tool.specs.Answer.{Answer, ◌>>=◌}
+use Rattle.vital_report.specs.Lines.{refused_stimulus}
+use Rattle.vital_stim.specs.Stimuli.{stim}
+use Rattle.vital_stim.specs.declared.fault.StimFault.{StimFault}
+use Rattle.vital_stim.specs.declared.stimuli.Stimuli.{Stimuli}
+use Rattle.vital_tool.specs.Answer.{Answer, ◌>>=◌, text_of, refused, not_there}
+use Rattle.vital_tool.specs.Cells.{cells_answer}
 use Rattle.vital_tool.specs.Loading.{all_loaded}
 use Rattle.vital_tool.specs.Outcome.{Gives}
+use Rattle.vital_tool.specs.Play.{port_signal}
+use Rattle.vital_tool.specs.Ports.{port_run}
 use Rattle.vital_tool.specs.Reading.{Continues, IsReadAs, AreRead}
 use Rattle.vital_tool.specs.Refusals.{refused_words, text_refusal, IsFileRefusal, refused_at, IsLibraryRefusal}
-use Rattle.vital_tool.specs.Stages.{task_answer, IsLibraryAnswer, IsReadAnswer, IsLoadedAnswer, IsJobAnswer, IsAnswer, IsOnlyAnswer}
+use Rattle.vital_tool.specs.Run.{Event}
+use Rattle.vital_tool.specs.Stages.{IsPlayAnswer, IsTaskAnswer, IsLibraryAnswer, IsReadAnswer, IsLoadedAnswer, IsJobAnswer, IsOnlyAnswer}
+use Rattle.vital_tool.specs.Stimuli.{init_line, run_lines, printed_why, IsStimuliAnswer, IsReadStimuliAnswer}
 use Rattle.vital_tool.specs.declared.loading.Source.{Source}
 use Rattle.vital_tool.specs.declared.refusal.Refusal.{Refusal}
 use Rattle.vital_tool.specs.declared.refusal.Refusal.TheVariants as refusals
 use Rattle.vital_tool.specs.declared.status.Status.{Status}
-use Rattle.vital_tool.specs.declared.status.Status.TheVariants.{NoMemory}
+use Rattle.vital_tool.specs.declared.status.Status.TheVariants.{Done, Stimulus, NoMemory}
+use Rattle.vital_tool.proofs.OneRun.{one_run, started, stimuli_run}
 use Rattle.vital_tool.proofs.Printing.{prints_nothing}
 use Rattle.vital_vhdl.specs.Outcomes.{IsReading}
 use Rattle.vital_vhdl.specs.declared.reading.UnitError.{UnitError}
@@ -35,6 +45,9 @@ use Rattle.vital_vhdl.specs.declared.unit.Unit.{Unit as Unit'}
 use Rattle.vital_vhdl.specs.declared.unit.Units.{Units}
 use Rattle.vital_words.specs.Jobs.{job}
 use Rattle.vital_words.specs.declared.job.Job.{Job}
+use Rattle.vital_words.specs.declared.job.NamedFile.{NamedFile}
+use Rattle.vital_words.specs.declared.job.Task.{Task}
+use Rattle.vital_words.specs.declared.job.Task.TheVariants.{Play, Check}
 use Rattle.vital_words.specs.declared.key.FileKind.{FileKind}
 use Rattle.vital_words.specs.declared.key.FileKind.TheVariants as kind
 use Rattle.vital_words.specs.declared.refusal.UsageFault.{UsageFault}
@@ -104,6 +117,26 @@ gathered_is files e = limited_is (slice_get (units_of files) MOST_UNITS) e
     limited_is None h = judged_is files (least_of (faults (units_of files))) h
     limited_is (Some extra) h = cc
 
+one_stimuli_answer : (until : ℕ) (stimuli : Stimuli) → IsOne (IsStimuliAnswer until stimuli)
+one_stimuli_answer until stimuli =
+    let run = stimuli_run until stimuli in
+    let said = λ (happened : List Event). let answer : Answer = record { bytes = text_of (run_lines (map init_line (map port_signal stimuli.ports)) happened until); status = Done } in answer in
+    let happened = port_run stimuli.ports (started stimuli) until in
+    (said happened, (happened, run, refl), λ other o. o.2 ∙ ap said (one_run o.1 run).0)
+
+one_read_stimuli : (name : List ℕ) (until : ℕ) (read : Result Stimuli StimFault) → IsOne (IsReadStimuliAnswer name until read)
+one_read_stimuli name until (Ok stimuli) = one_stimuli_answer until stimuli
+one_read_stimuli name until (Err fault) = one_is (refused (refused_stimulus (printed_why fault.why) name fault.line) Stimulus)
+
+one_play_answer : (until : ℕ) (file : Option NamedFile) (source : Option Source) → IsOne (IsPlayAnswer until file source)
+one_play_answer until (Some file) (Some source) = one_read_stimuli file.name until (stim source.text)
+one_play_answer until (Some file) None = one_is not_there
+one_play_answer until None source = one_is not_there
+
+one_task_answer : (task : Task) (files : List NamedFile) (sources : List Source) (library : List Units) → IsOne (IsTaskAnswer task files sources library)
+one_task_answer (Play play) files sources library = one_play_answer play.until (slice_get files play.stim) (slice_get sources play.stim)
+one_task_answer Check files sources library = one_is (cells_answer library)
+
 one_library_refusal : (error : LibraryError) → (error ≡ library.NoMemory → ⊥) → IsOne (IsLibraryRefusal error)
 one_library_refusal (library.TooManyUnits place) some = one_is (refusals.Limit UnitsLimit place)
 one_library_refusal (library.Duplicate place) some = one_is (refusals.Library why.Duplicate place)
@@ -111,7 +144,7 @@ one_library_refusal (library.NoEntity place) some = one_is (refusals.Library why
 one_library_refusal library.NoMemory some = absurd (some refl)
 
 one_library : (job : Job) (sources : List Source) (outcome : Result (List Units) LibraryError) → (outcome ≡ Err library.NoMemory → ⊥) → IsOne (IsLibraryAnswer job sources outcome)
-one_library job sources (Ok files) some = one_is (task_answer job.task job.files sources files)
+one_library job sources (Ok files) some = one_task_answer job.task job.files sources files
 one_library job sources (Err error) some =
     let p = one_library_refusal error (λ e. some (ap (λ (x : LibraryError). Err x) e)) in
     (refused_at job.files p.0, (p.0, p.1, refl), λ other o. o.2 ∙ ap (refused_at job.files) (p.2 o.0 o.1))

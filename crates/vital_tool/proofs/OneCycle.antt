@@ -1,16 +1,14 @@
 -- One cycle, port after port.
 use Rattle.std.proofs.Common.{◌≡◌, ℕ, zero, suc, ◌+◌, ◌<◌, ◌≤◌, cond, List, [], ◌∷◌, ◌++◌, length, get_or, set, take, drop, map, Some, None, refl, sym, ap, ◌∙◌, append_assoc, inl, inr, arith}
-use Rattle.std.specs.List.{flat_map}
+use Rattle.std.proofs.lemmas.Grind.{flat_map-append}
 use Rattle.std.proofs.lemmas.Bool.{cases_Bool}
 use Rattle.std.proofs.lemmas.List.{drop_more, take_more, take_all, drop_all, get_or_at, set_at, length-take-le, length-map, map-append, append-nil}
 use Rattle.vital_base.specs.declared.ports.PortBit.{PortBit}
 use Rattle.vital_logic.specs.declared.level.Level.{Level}
 use Rattle.vital_report.specs.Lines.{event, bytes_of}
 use Rattle.vital_tool.specs.Stimuli.{text_of_event}
-use Rattle.vital_tool.specs.Driver.{Driver, RisesFrom, AllRise, currents, same_level, advance}
-use Rattle.vital_tool.specs.PlayText.{port_text}
-use Rattle.vital_tool.specs.Run.{events}
-use Rattle.vital_tool.specs.Play.{port_signals}
+use Rattle.vital_tool.specs.Driver.{Driver, RisesFrom, AllRise, same_level, advance}
+use Rattle.vital_tool.specs.Ports.{port_event, port_events, port_text, cycle_text}
 
 -- the drivers before a number have come to a time, and the others have not
 abbrev pub AdvancedBefore : ℕ → ℕ → List Driver → List Driver → Type 0
@@ -53,30 +51,23 @@ rises_in low i [] x lt h = absurd (omega arith)
 rises_in low zero (d ∷ ds) x lt h = h.0
 rises_in low (suc i) (d ∷ ds) x lt h = rises_in low i ds x (omega arith) h.1
 
--- the text of the events that these ports have, from a number on
-abbrev pub text_from : ℕ → ℕ → ℕ → List PortBit → List Driver → List ℕ
-text_from time delta n ports ds = flat_map text_of_event (events time delta (port_signals n ports) (currents ds) (currents (map (advance time) ds)))
-
-cons_port : (time delta n : ℕ) (p : PortBit) (ports : List PortBit) (d : Driver) (ds : List Driver)
-    → text_from time delta n (p ∷ ports) (d ∷ ds) ≡ port_text time delta p d ++ text_from time delta (n + 1) ports ds
-cons_port time delta n p ports d ds =
-    elim (cases_Bool (same_level d.current (advance time d).current)) [
-      | inl same ↦ rw same refl
-      | inr other ↦ rw other (sym (append_assoc (text_of_event (record { time = time; delta = delta; name = p.name; value = (advance time d).current })) [] (text_from time delta (n + 1) ports ds)))
-    ]
+-- the text of a port and of those after it
+cons_port : (time delta : ℕ) (p : PortBit) (ports : List PortBit) (d : Driver) (ds : List Driver)
+    → cycle_text time delta (p ∷ ports) (d ∷ ds) ≡ port_text time delta p d ++ cycle_text time delta ports ds
+cons_port time delta p ports d ds = flat_map-append text_of_event (port_event time delta p d) (port_events time delta ports ds)
 
 -- the text of the ports that are left is that of the next one, and then of the others
 pub one_port : (time delta : ℕ) (ports : List PortBit) (start : List Driver) (i : ℕ) (p : PortBit) (x : Driver) → i < length ports → i < length start → p ≡ get_or ports i p
-    → text_from time delta i (drop i ports) (drop i start) ≡ port_text time delta p (get_or start i x) ++ text_from time delta (i + 1) (drop (i + 1) ports) (drop (i + 1) start)
+    → cycle_text time delta (drop i ports) (drop i start) ≡ port_text time delta p (get_or start i x) ++ cycle_text time delta (drop (i + 1) ports) (drop (i + 1) start)
 one_port time delta ports start i p x lt within is =
-    ap (λ (ps : List PortBit). text_from time delta i ps (drop i start)) (drop_more ports i p lt)
-    ∙ ap (text_from time delta i (get_or ports i p ∷ drop (i + 1) ports)) (drop_more start i x within)
-    ∙ cons_port time delta i (get_or ports i p) (drop (i + 1) ports) (get_or start i x) (drop (i + 1) start)
-    ∙ ap (λ (q : PortBit). port_text time delta q (get_or start i x) ++ text_from time delta (i + 1) (drop (i + 1) ports) (drop (i + 1) start)) (sym is)
+    ap (λ (ps : List PortBit). cycle_text time delta ps (drop i start)) (drop_more ports i p lt)
+    ∙ ap (cycle_text time delta (get_or ports i p ∷ drop (i + 1) ports)) (drop_more start i x within)
+    ∙ cons_port time delta (get_or ports i p) (drop (i + 1) ports) (get_or start i x) (drop (i + 1) start)
+    ∙ ap (λ (q : PortBit). port_text time delta q (get_or start i x) ++ cycle_text time delta (drop (i + 1) ports) (drop (i + 1) start)) (sym is)
 
 -- no port is left
-pub no_port : (time delta : ℕ) (ports : List PortBit) (start : List Driver) (i : ℕ) → length ports ≤ i → text_from time delta i (drop i ports) (drop i start) ≡ []
-no_port time delta ports start i le = ap (λ (ps : List PortBit). text_from time delta i ps (drop i start)) (drop_all i ports le)
+pub no_port : (time delta : ℕ) (ports : List PortBit) (start : List Driver) (i : ℕ) → length ports ≤ i → cycle_text time delta (drop i ports) (drop i start) ≡ []
+no_port time delta ports start i le = ap (λ (ps : List PortBit). cycle_text time delta ps (drop i start)) (drop_all i ports le)
 
 -- a new value comes where the level changes, and is the present one
 pub change_is : (time delta : ℕ) (p : PortBit) (d new : Driver) (v : Level) → new ≡ advance time d → Some v ≡ cond (same_level d.current new.current) None (Some new.current)

@@ -1,5 +1,5 @@
 -- From what was written to what a run gives.
-use Rattle.std.proofs.Common.{◌≡◌, ◌≢◌, ℕ, ◌<◌, ◌≤◌, Bool, true, cond, List, [], ◌∷◌, ◌++◌, length, map, Option, Some, None, Result, Ok, Err, ◌⊎◌, inl, inr, refl, sym, ap, subst, ◌∙◌, arith}
+use Rattle.std.proofs.Common.{◌≡◌, ◌≢◌, ℕ, ◌≤◌, true, List, [], ◌∷◌, ◌++◌, map, Option, Some, None, Result, Ok, Err, ◌⊎◌, inl, inr, refl, sym, ap, subst, ◌∙◌, arith}
 use Rattle.std.specs.Prelude.{IfSome, OnOk, OnErr}
 use Rattle.std.specs.List.{flat_map}
 use Rattle.std.proofs.lemmas.Bool.{false≢true}
@@ -7,16 +7,12 @@ use Rattle.std.proofs.lemmas.List.{append-nil}
 use Rattle.vital_base.specs.Shelves.{Files}
 use Rattle.vital_base.specs.Faults.{Rose}
 use Rattle.vital_base.specs.Sinks.{appended, AppendsPrefix}
-use Rattle.vital_report.specs.Lines.{refused_stimulus}
 use Rattle.vital_report.specs.Reporters.{ReporterState}
-use Rattle.vital_stim.specs.Stimuli.{stim}
-use Rattle.vital_stim.specs.declared.fault.StimFault.{StimFault}
-use Rattle.vital_stim.specs.declared.stimuli.Stimuli.{Stimuli}
-use Rattle.vital_tool.specs.declared.status.Status.TheVariants.{Stimulus, ReadFault, WriteFault, NoMemory}
+use Rattle.vital_tool.specs.declared.status.Status.TheVariants.{ReadFault, WriteFault, NoMemory}
 use Rattle.vital_tool.specs.declared.status.Status.{Status}
 use Rattle.vital_tool.specs.Run.{Event}
-use Rattle.vital_tool.specs.Answer.{Answer, text_of, refused}
-use Rattle.vital_tool.specs.Stimuli.{event_line, text_of_event, printed_why, stimuli_answer, read_answer, text_answer}
+use Rattle.vital_tool.specs.Answer.{Answer, text_of}
+use Rattle.vital_tool.specs.Stimuli.{event_line, text_of_event}
 use Rattle.vital_tool.specs.Outcome.{Gives, Prints, Runs, complete, input_failed, output_failed, memory_failed}
 use Rattle.vital_tool.specs.Writes.{SinkState, ready, Writes, WritesAll, WritesPrefix}
 
@@ -106,13 +102,6 @@ runs_unread IsAnswer told is_steady before after old rose falls missing =
 pub runs_nothing : (IsAnswer : Files → Answer → Type 0) (told : Option Files) (is_steady : Type 0) (before after : ℕ) (old : SinkState) → before ≤ after → Runs IsAnswer NoMemory told is_steady before after old old
 runs_nothing IsAnswer told is_steady before after old falls =
     runs_printed IsAnswer (λ answer. Unit {0}) NoMemory told is_steady before after old old (prints_nothing (λ answer. Unit {0}) old) falls (if_told told _ (λ files answer is. tt))
-
--- the answer to a text with stimuli, and to one with a fault
-pub text_of_stimuli : (name : List ℕ) (until : ℕ) (text : List ℕ) (stimuli : Stimuli) → stim text ≡ Ok stimuli → text_answer name until text ≡ stimuli_answer until stimuli
-text_of_stimuli name until text stimuli e = ap (read_answer name until) e
-
-pub text_of_fault : (name : List ℕ) (until : ℕ) (text : List ℕ) (fault : StimFault) → stim text ≡ Err fault → text_answer name until text ≡ refused (refused_stimulus (printed_why fault.why) name fault.line) Stimulus
-text_of_fault name until text fault e = ap (read_answer name until) e
 
 not_stopped : (reporter : ReporterState) (old new : ℕ) → reporter ≡ ready → ((reporter.stopped ≡ true) ⊎ Rose old new) → Rose old new
 not_stopped reporter old new is (inl stopped) = absurd (false≢true (sym (ap (λ (r : ReporterState). r.stopped) is) ∙ stopped))

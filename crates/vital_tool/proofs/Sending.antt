@@ -1,14 +1,14 @@
 -- Stimuli that are sent to the drivers of their ports.
-use Rattle.std.proofs.Common.{◌≡◌, ℕ, zero, suc, ◌+◌, ◌<◌, List, [], ◌∷◌, length, get_or, set, drop, map, refl, sym, ap, ◌∙◌, zero-add, arith}
+use Rattle.std.proofs.Common.{◌≡◌, ℕ, zero, suc, ◌+◌, ◌<◌, List, [], ◌∷◌, length, get_or, set, drop, refl, sym, ap, ◌∙◌, zero-add, arith}
 use Rattle.std.proofs.lemmas.List.{drop_more, length-map}
 use Rattle.vital_base.specs.declared.ports.PortBit.{PortBit}
 use Rattle.vital_base.specs.declared.kind.Kind.TheVariants.{Transport}
 use Rattle.vital_logic.specs.declared.level.Level.{Level}
 use Rattle.vital_stim.specs.declared.stimuli.StimLine.{StimLine}
-use Rattle.vital_tool.specs.Driver.{AllRise, Driver, with_new, send}
 use Rattle.vital_stim.specs.declared.stimuli.Stimuli.{Stimuli}
-use Rattle.vital_tool.specs.Play.{changed, sent, idle_drivers, initial_level, after_initial_run, first_state}
-use Rattle.vital_tool.proofs.CycleStates.{values_are}
+use Rattle.vital_tool.specs.Driver.{AllRise, Driver, with_new, send}
+use Rattle.vital_tool.specs.Play.{changed, idle_driver}
+use Rattle.vital_tool.specs.Ports.{idle_drivers, sent_to}
 use Rattle.vital_tool.proofs.Rising.{with_new_rises}
 
 set_is_changed : (ds : List Driver) (n : ℕ) (f : Driver → Driver) (d : Driver) → n < length ds → set ds n (f (get_or ds n d)) ≡ changed n f ds
@@ -19,7 +19,7 @@ set_is_changed (x ∷ ds) (suc n) f d lt = ap (λ (ys : List Driver). x ∷ ys) 
 -- one line more is sent
 pub sends : (lines : List StimLine) (i : ℕ) (none : StimLine) (ds : List Driver) (new d : Driver) → i < length lines → (get_or lines i none).port < length ds
     → new ≡ record { current = (get_or ds (get_or lines i none).port d).current; pending = with_new (get_or ds (get_or lines i none).port d).pending (get_or lines i none).time (get_or lines i none).value }
-    → sent (drop (i + 1) lines) (set ds (get_or lines i none).port new) ≡ sent (drop i lines) ds
+    → sent_to (drop (i + 1) lines) (set ds (get_or lines i none).port new) ≡ sent_to (drop i lines) ds
 sends lines i none ds new d lt within assigned =
     let line = get_or lines i none in
     let f : Driver → Driver = send 0 Transport line.value line.time in
@@ -27,7 +27,7 @@ sends lines i none ds new d lt within assigned =
     let at_time : f old ≡ record { current = old.current; pending = with_new old.pending line.time line.value } =
     ap (λ (t : ℕ). record { current = old.current; pending = with_new old.pending t line.value }) (zero-add line.time) in
     let after : set ds line.port new ≡ changed line.port f ds = ap (set ds line.port) (assigned ∙ sym at_time) ∙ set_is_changed ds line.port f d within in
-    ap (sent (drop (i + 1) lines)) after ∙ sym (ap (λ (ls : List StimLine). sent ls ds) (drop_more lines i none lt))
+    ap (sent_to (drop (i + 1) lines)) after ∙ sym (ap (λ (ls : List StimLine). sent_to ls ds) (drop_more lines i none lt))
 
 idle_rise : (ports : List PortBit) → AllRise 0 (idle_drivers ports)
 idle_rise [] = tt
@@ -38,12 +38,12 @@ changed_rise n value delay [] h = tt
 changed_rise zero value delay (d ∷ ds) h = (with_new_rises 0 (0 + delay) value d.pending h.0 (omega arith), h.1)
 changed_rise (suc n) value delay (d ∷ ds) h = (h.0, changed_rise n value delay ds h.1)
 
-sent_rise : (lines : List StimLine) (ds : List Driver) → AllRise 0 ds → AllRise 0 (sent lines ds)
+sent_rise : (lines : List StimLine) (ds : List Driver) → AllRise 0 ds → AllRise 0 (sent_to lines ds)
 sent_rise [] ds h = h
 sent_rise (line ∷ lines) ds h = sent_rise lines (changed line.port (send 0 Transport line.value line.time) ds) (changed_rise line.port line.value line.time ds h)
 
 -- after the initial run each driver's transactions rise
-pub all_rise_sent : (lines : List StimLine) (ports : List PortBit) → AllRise 0 (sent lines (idle_drivers ports))
+pub all_rise_sent : (lines : List StimLine) (ports : List PortBit) → AllRise 0 (sent_to lines (idle_drivers ports))
 all_rise_sent lines ports = sent_rise lines (idle_drivers ports) (idle_rise ports)
 
 length-changed : (n : ℕ) (f : Driver → Driver) (ds : List Driver) → length (changed n f ds) ≡ length ds
@@ -51,26 +51,9 @@ length-changed n f [] = refl
 length-changed zero f (d ∷ ds) = refl
 length-changed (suc n) f (d ∷ ds) = ap suc (length-changed n f ds)
 
-pub length-sent : (lines : List StimLine) (ds : List Driver) → length (sent lines ds) ≡ length ds
+pub length-sent : (lines : List StimLine) (ds : List Driver) → length (sent_to lines ds) ≡ length ds
 length-sent [] ds = refl
 length-sent (line ∷ lines) ds = length-sent lines (changed line.port (send 0 Transport line.value line.time) ds) ∙ length-changed line.port (send 0 Transport line.value line.time) ds
 
-changed_currents : (n : ℕ) (value : Level) (delay : ℕ) (ds : List Driver) → map (λ d. d.current) (changed n (send 0 Transport value delay) ds) ≡ map (λ d. d.current) ds
-changed_currents n value delay [] = refl
-changed_currents zero value delay (d ∷ ds) = refl
-changed_currents (suc n) value delay (d ∷ ds) = ap (λ (ls : List Level). d.current ∷ ls) (changed_currents n value delay ds)
-
--- sending changes no present value
-pub sent_currents : (lines : List StimLine) (ds : List Driver) → map (λ d. d.current) (sent lines ds) ≡ map (λ d. d.current) ds
-sent_currents [] ds = refl
-sent_currents (line ∷ lines) ds = sent_currents lines (changed line.port (send 0 Transport line.value line.time) ds) ∙ changed_currents line.port line.value line.time ds
-
--- the state after the initial run, for signals that each have one driver
-pub after_initial : (r : List Level → Level) (stimuli : Stimuli) → after_initial_run r stimuli ≡ first_state (sent stimuli.lines (idle_drivers stimuli.ports))
-after_initial r stimuli =
-    let idle = idle_drivers stimuli.ports in
-    let values = values_are r idle stimuli.ports (length-map stimuli.ports (λ p. record { current = initial_level p; pending = [] })) in
-    ap (λ (vs : List Level). record { now = 0; delta = 0; drivers = sent stimuli.lines idle; values = vs }) (values ∙ sym (sent_currents stimuli.lines idle))
-
-pub length-started : (stimuli : Stimuli) → length (sent stimuli.lines (idle_drivers stimuli.ports)) ≡ length stimuli.ports
-length-started stimuli = length-sent stimuli.lines (idle_drivers stimuli.ports) ∙ length-map stimuli.ports (λ p. record { current = initial_level p; pending = [] })
+pub length-started : (stimuli : Stimuli) → length (sent_to stimuli.lines (idle_drivers stimuli.ports)) ≡ length stimuli.ports
+length-started stimuli = length-sent stimuli.lines (idle_drivers stimuli.ports) ∙ length-map stimuli.ports idle_driver

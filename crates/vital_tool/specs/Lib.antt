@@ -12,4 +12,4 @@ pub mod Stages
 pub mod Returned
 pub mod Writes
 pub mod Outcome
-pub mod PlayText
+pub mod Ports

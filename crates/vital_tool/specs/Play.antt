@@ -1,49 +1,49 @@
--- A run of stimuli alone: each port is a signal with one driver.
-use Rattle.std.specs.Prelude.{ℕ, zero, suc, ◌+◌, List, [], ◌∷◌, map, unwrap_or}
+-- The signals of stimuli alone: each port is a signal with one driver.
+use Rattle.std.specs.Prelude.{ℕ, zero, suc, List, [], ◌∷◌, map, None, unwrap_or}
+use Rattle.vital_base.specs.declared.kind.Kind.TheVariants.{Transport}
 use Rattle.vital_base.specs.declared.ports.PortBit.{PortBit}
 use Rattle.vital_logic.specs.Levels.{level_of}
 use Rattle.vital_logic.specs.declared.level.Level.{Level}
 use Rattle.vital_logic.specs.declared.level.Level.TheVariants.{U}
-use Rattle.vital_base.specs.declared.kind.Kind.TheVariants.{Transport}
 use Rattle.vital_stim.specs.declared.stimuli.StimLine.{StimLine}
 use Rattle.vital_stim.specs.declared.stimuli.Stimuli.{Stimuli}
-use Rattle.vital_tool.specs.Driver.{Driver, currents, send}
-use Rattle.vital_tool.specs.Run.{Signal, State, value_of}
+use Rattle.vital_tool.specs.Driver.{Driver, send}
+use Rattle.vital_tool.specs.Run.{Signal, State}
 
 -- The level that a port has at first.
 abbrev pub initial_level : PortBit → Level
 initial_level port = unwrap_or (level_of port.initial) U
 
--- The signals of the ports, each driven by the driver of its number, from the given number on.
-abbrev pub port_signals : ℕ → List PortBit → List Signal
-port_signals number [] = []
-port_signals number (port ∷ ports) =
-    record { name = port.name; default = initial_level port; drivers = number ∷ [] } ∷ port_signals (number + 1) ports
+-- The driver of a port before the initial run.
+abbrev pub idle_driver : PortBit → Driver
+idle_driver port = record { current = initial_level port; pending = [] }
 
--- The drivers of the ports before the initial run.
-abbrev pub idle_drivers : List PortBit → List Driver
-idle_drivers ports = map (λ port. record { current = initial_level port; pending = [] }) ports
-
--- The drivers with the one of a number changed.
-abbrev pub changed : ℕ → (Driver → Driver) → List Driver → List Driver
-changed number change [] = []
-changed zero change (driver ∷ drivers) = change driver ∷ drivers
-changed (suc number) change (driver ∷ drivers) = driver ∷ changed number change drivers
-
--- The initial run: for each line in order, one transport assignment of its value after its time.
-abbrev pub sent : List StimLine → List Driver → List Driver
-sent [] drivers = drivers
-sent (line ∷ lines) drivers = sent lines (changed line.port (send 0 Transport line.value line.time) drivers)
-
--- The state after the initial run, in which the signals still have their first values.
-abbrev pub after_initial_run : (List Level → Level) → Stimuli → State
-after_initial_run resolution stimuli = record {
-  now = 0;
-  delta = 0;
-  drivers = sent stimuli.lines (idle_drivers stimuli.ports);
-  values = map (value_of resolution (idle_drivers stimuli.ports)) (port_signals 0 stimuli.ports);
+-- The signal of a port before the initial run.
+abbrev pub port_signal : PortBit → Signal
+port_signal port = record {
+  name = port.name;
+  default = initial_level port;
+  drivers = idle_driver port ∷ [];
+  value = initial_level port;
+  last_value = initial_level port;
+  last_event = None;
 }
 
--- The state before the first cycle, where each signal has the value of its one driver.
-abbrev pub first_state : List Driver → State
-first_state drivers = record { now = 0; delta = 0; drivers = drivers; values = currents drivers }
+-- A list with the item of a number changed.
+abbrev pub changed : {A : Type 0} → ℕ → (A → A) → List A → List A
+changed number change [] = []
+changed zero change (item ∷ items) = change item ∷ items
+changed (suc number) change (item ∷ items) = item ∷ changed number change items
+
+-- A stimulus is one transport assignment of its value after its time, made in the initial run.
+abbrev pub stimulated : StimLine → Signal → Signal
+stimulated line signal = record signal { drivers = map (send 0 Transport line.value line.time) signal.drivers }
+
+-- The initial run: each line in order is a stimulus for the signal of its port.
+abbrev pub sent : List StimLine → List Signal → List Signal
+sent [] signals = signals
+sent (line ∷ lines) signals = sent lines (changed line.port (stimulated line) signals)
+
+-- The state after the initial run, in which the signals still have their first values.
+abbrev pub after_initial_run : Stimuli → State
+after_initial_run stimuli = record { now = 0; delta = 0; signals = sent stimuli.lines (map port_signal stimuli.ports) }

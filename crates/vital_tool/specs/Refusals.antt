@@ -1,5 +1,5 @@
 -- How words and files are refused.
-use Rattle.std.specs.Prelude.{ℕ, ◌≡◌, List, [], map, slice_index_or, Result, Ok, Err}
+use Rattle.std.specs.Prelude.{ℕ, ◌≡◌, List, [], map, slice_index_or}
 use Rattle.vital_base.specs.declared.place.Place.{Place}
 use Rattle.vital_lex.specs.Places.{line_of, column_of}
 use Rattle.vital_lex.specs.declared.faults.TextFault.{TextFault}

@@ -10,32 +10,32 @@ use Rattle.vital_tool.specs.Cells.{cells_answer}
 use Rattle.vital_tool.specs.Loading.{all_loaded}
 use Rattle.vital_tool.specs.Reading.{AreRead}
 use Rattle.vital_tool.specs.Refusals.{refused_words, refused_at, IsLibraryRefusal}
-use Rattle.vital_tool.specs.Stimuli.{text_answer}
+use Rattle.vital_tool.specs.Stimuli.{IsTextAnswer}
 use Rattle.vital_tool.specs.declared.loading.Source.{Source}
 use Rattle.vital_tool.specs.declared.refusal.Refusal.{Refusal}
 use Rattle.vital_vhdl.specs.declared.unit.Units.{Units}
 use Rattle.vital_words.specs.Jobs.{job}
 use Rattle.vital_words.specs.declared.job.Job.{Job}
 use Rattle.vital_words.specs.declared.job.NamedFile.{NamedFile}
-use Rattle.vital_words.specs.declared.job.Play.{Play as PlayTask}
 use Rattle.vital_words.specs.declared.job.Task.{Task}
 use Rattle.vital_words.specs.declared.job.Task.TheVariants.{Play, Check}
 use Rattle.vital_words.specs.declared.refusal.UsageFault.{UsageFault}
 
 -- What `play` answers to its stimulus file.
-abbrev pub played : ℕ → Option NamedFile → Option Source → Answer
-played until (Some file) (Some source) = text_answer file.name until source.text
-played until (Some file) None = not_there
-played until None source = not_there
+abbrev pub IsPlayAnswer : ℕ → Option NamedFile → Option Source → Answer → Type 0
+IsPlayAnswer until (Some file) (Some source) answer = IsTextAnswer file.name until source.text answer
+IsPlayAnswer until (Some file) None answer = answer ≡ not_there
+IsPlayAnswer until None source answer = answer ≡ not_there
 
 -- What a task makes of its files and their library.
-abbrev pub task_answer : Task → List NamedFile → List Source → List Units → Answer
-task_answer (Play play) files sources library = played play.until (slice_get files play.stim) (slice_get sources play.stim)
-task_answer Check files sources library = cells_answer library
+abbrev pub IsTaskAnswer : Task → List NamedFile → List Source → List Units → Answer → Type 0
+IsTaskAnswer (Play play) files sources library answer =
+    IsPlayAnswer play.until (slice_get files play.stim) (slice_get sources play.stim) answer
+IsTaskAnswer Check files sources library answer = answer ≡ cells_answer library
 
 -- What is answered to files that were joined into a library, or refused.
 abbrev pub IsLibraryAnswer : Job → List Source → Result (List Units) LibraryError → Answer → Type 0
-IsLibraryAnswer job sources (Ok library) answer = answer ≡ task_answer job.task job.files sources library
+IsLibraryAnswer job sources (Ok library) answer = IsTaskAnswer job.task job.files sources library answer
 IsLibraryAnswer job sources (Err error) answer =
     (refused_so : Refusal) × IsLibraryRefusal error refused_so × (answer ≡ refused_at job.files refused_so)
 

@@ -1,12 +1,10 @@
 //! A run of stimuli alone: each port is a signal with one driver.
 
-ghost use Rattle.std.specs.Prelude.{◌≡◌, ◌+◌, ◌-◌, ◌^◌, ◌<◌, ◌==◌, length, map, All, IfOk, OnOk, if◌then◌else◌};
+ghost use Rattle.std.specs.Prelude.{◌≡◌, ◌-◌, ◌^◌, ◌<◌, length, map, All, IfOk, OnOk};
 ghost use Rattle.vital_tool.specs.Answer.{text_of};
-ghost use Rattle.vital_tool.specs.Stimuli.{init_lines, run_lines};
-ghost use Rattle.vital_tool.specs.Driver.{RisesFrom, AllRise, advance, currents, least, next_time, pending_times};
-ghost use Rattle.vital_tool.specs.Play.{first_state, idle_drivers, port_signals, sent};
-ghost use Rattle.vital_tool.specs.PlayText.{port_text, cycle_text, cycles_text};
-ghost use Rattle.vital_tool.specs.Run.{up_to};
+ghost use Rattle.vital_tool.specs.Driver.{RisesFrom, AllRise, advance, least, next_time, pending_times};
+ghost use Rattle.vital_tool.specs.Ports.{idle_drivers, sent_to, port_inits, port_lines, port_text, cycle_text, cycles_text};
+ghost use Rattle.vital_tool.specs.Run.{delta_at, up_to};
 ghost use Rattle.vital_tool.specs.Writes.{Writes, ready};
 
 use crate::driver::{Driver, next_time, sooner};
@@ -20,7 +18,7 @@ use vital_stim::{StimLine, Stimuli};
 /// The drivers of the ports of stimuli after the initial run, in which each line is assigned to the driver of its port.
 pub fn start(alloc: Global, stimuli: &Stimuli) -> Result<Vec<Driver>, AllocError>
     requires { All (λ line. line.port < length stimuli.now.ports) stimuli.now.lines }
-    ensures { IfOk result (λ drivers. drivers.items ≡ sent stimuli.now.lines (idle_drivers stimuli.now.ports)) }
+    ensures { IfOk result (λ drivers. drivers.items ≡ sent_to stimuli.now.lines (idle_drivers stimuli.now.ports)) }
 {
     let mut drivers = idle_drivers(alloc, stimuli.ports.as_slice())?;
     send_all(&mut drivers, stimuli.lines.as_slice())?;
@@ -42,7 +40,7 @@ fn idle_drivers(alloc: Global, ports: &[PortBit]) -> Result<Vec<Driver>, AllocEr
 /// The initial run: each line is assigned to the driver of its port.
 fn send_all(drivers: &mut [Driver], lines: &[StimLine]) -> Result<(), AllocError>
     requires { All (λ line. line.port < length drivers.old) lines.now }
-    ensures { OnOk result (drivers.new ≡ sent lines.now drivers.old) }
+    ensures { OnOk result (drivers.new ≡ sent_to lines.now drivers.old) }
 {
     for line in lines {
         drivers[line.port as usize].assign_transport(line.time, line.value)?;
@@ -61,7 +59,7 @@ pub fn play<K: Sink>(
     requires one_each { length ports.now ≡ length drivers.old }
     requires rise { AllRise 0 drivers.old }
     requires ready { report.old ≡ ready }
-    ensures { Writes result (text_of (run_lines (port_signals 0 ports.now) (first_state drivers.old) until))
+    ensures { Writes result (text_of (port_lines ports.now drivers.old until))
         (record { told = K.bytes sink.old; faults = K.faults sink.old })
         (record { told = K.bytes sink.new; faults = K.faults sink.new }) report.new }
 {
@@ -80,7 +78,7 @@ fn put_inits<K: Sink>(
 ) -> Result<(), WriteFault>
     requires one_each { length ports.now ≡ length drivers.now }
     requires ready { report.old ≡ ready }
-    ensures { Writes result (text_of (init_lines (port_signals 0 ports.now) (currents drivers.now)))
+    ensures { Writes result (text_of (port_inits ports.now drivers.now))
         (record { told = K.bytes sink.old; faults = K.faults sink.old })
         (record { told = K.bytes sink.new; faults = K.faults sink.new }) report.new }
 {
@@ -127,7 +125,7 @@ fn run_cycles<K: Sink>(
 /// The delta number of the cycle that comes next, at a time.
 fn next_delta(time: Time, now: Time, delta: u64) -> u64
     requires { time ≡ now → delta < 2 ^ 64 - 1 }
-    ensures { result ≡ (if time == now then delta + 1 else 0) }
+    ensures { result ≡ delta_at time now delta }
 {
     if time == now { delta + 1 } else { 0 }
 }

@@ -4,7 +4,7 @@ ghost use Rattle.std.specs.Prelude.{◌≡◌, ◌≤◌, length, All, Ok};
 ghost use Rattle.vital_library.specs.Gathered.{gathered};
 ghost use Rattle.vital_tool.specs.Loading.{all_loaded};
 ghost use Rattle.vital_tool.specs.Outcome.{Prints, Runs};
-ghost use Rattle.vital_tool.specs.Stages.{IsLibraryAnswer, IsLoadedAnswer, task_answer};
+ghost use Rattle.vital_tool.specs.Stages.{IsLibraryAnswer, IsLoadedAnswer, IsTaskAnswer};
 ghost use Rattle.vital_tool.specs.Writes.{ready};
 ghost use Rattle.vital_words.specs.Given.{NamesIn};
 
@@ -111,7 +111,7 @@ fn run_task<K: Sink>(
     requires count { length sources.now ≡ length job.now.files }
     requires names_in { NamesIn job.now }
     requires ready { report.old ≡ ready }
-    ensures { Prints (λ answer. answer ≡ task_answer job.now.task job.now.files sources.now library.now) result
+    ensures { Prints (IsTaskAnswer job.now.task job.now.files sources.now library.now) result
         (record { told = K.bytes sink.old; faults = K.faults sink.old })
         (record { told = K.bytes sink.new; faults = K.faults sink.new }) }
 {

@@ -2,7 +2,7 @@
 
 ghost use Rattle.std.specs.Prelude.{◌≡◌, ◌<◌, ◌≤◌, length, All};
 ghost use Rattle.vital_tool.specs.Outcome.{Prints};
-ghost use Rattle.vital_tool.specs.Stimuli.{printed_why, stimuli_answer, text_answer};
+ghost use Rattle.vital_tool.specs.Stimuli.{printed_why, IsStimuliAnswer, IsTextAnswer};
 ghost use Rattle.vital_tool.specs.Writes.{ready};
 
 use crate::cycles::{play, start};
@@ -24,7 +24,7 @@ pub fn play_text<K: Sink>(
 ) -> Status
     requires short { length text.now ≤ 16_777_216 }
     requires ready { report.old ≡ ready }
-    ensures { Prints (λ answer. answer ≡ text_answer name.now until text.now) result
+    ensures { Prints (IsTextAnswer name.now until text.now) result
         (record { told = K.bytes sink.old; faults = K.faults sink.old })
         (record { told = K.bytes sink.new; faults = K.faults sink.new }) }
 {
@@ -52,7 +52,7 @@ fn play_stimuli<K: Sink>(
 ) -> Status
     requires ports { All (λ line. line.port < length stimuli.now.ports) stimuli.now.lines }
     requires ready { report.old ≡ ready }
-    ensures { Prints (λ answer. answer ≡ stimuli_answer until stimuli.now) result
+    ensures { Prints (IsStimuliAnswer until stimuli.now) result
         (record { told = K.bytes sink.old; faults = K.faults sink.old })
         (record { told = K.bytes sink.new; faults = K.faults sink.new }) }
 {

@@ -1,5 +1,5 @@
 use Rattle.std.proofs.Common.{◌≡◌, take}
-use Rattle.vital_tool.specs.Play.{idle_drivers}
+use Rattle.vital_tool.specs.Ports.{idle_drivers}
 use Rattle.vital_tool.proofs.cycles.idle_drivers.Given as goal
 
 abbrev pub invariant-loop-port : goal.invariant-loop-port

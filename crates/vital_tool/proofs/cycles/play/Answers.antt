@@ -1,12 +1,9 @@
 use Rattle.std.proofs.Common.{◌++◌, []}
 use Rattle.vital_report.specs.Lines.{version, end, bytes_of}
 use Rattle.vital_tool.specs.Answer.{text_of}
-use Rattle.vital_tool.specs.Stimuli.{run_lines}
-use Rattle.vital_tool.specs.Driver.{currents}
-use Rattle.vital_tool.specs.Play.{port_signals, first_state}
-use Rattle.vital_tool.specs.PlayText.{cycles_text}
+use Rattle.vital_tool.specs.Ports.{cycles_text, port_lines}
 use Rattle.vital_tool.specs.Writes.{SinkState}
-use Rattle.vital_tool.proofs.Parts.{inits_from, after_version, run_begins, part_goes_on, part_stops, writes_failed, writes_last}
+use Rattle.vital_tool.proofs.Parts.{inits_text, after_version, run_begins, part_goes_on, part_stops, writes_failed, writes_last}
 use Rattle.vital_tool.proofs.cycles.play.Goals as goal
 
 pub returns-in_err-put_line : goal.returns-in_err-put_line
@@ -14,7 +11,7 @@ returns-in_err-put_line g c =
     let ports = c.args.ports.now in
     let ds = c.args.drivers.now in
     let until = c.args.until in
-    let whole = text_of (run_lines (port_signals 0 ports) (first_state ds) until) in
+    let whole = text_of (port_lines ports ds until) in
     let start : SinkState = record { told = g.K.Sink.bytes c.args.sink.now; faults = g.K.Sink.faults c.args.sink.now } in
     let p0 = run_begins ports ds until start in
     let rest0 = after_version ports ds until in
@@ -27,13 +24,13 @@ returns-in_err-put_inits g c =
     let ports = c.args.ports.now in
     let ds = c.args.drivers.now in
     let until = c.args.until in
-    let whole = text_of (run_lines (port_signals 0 ports) (first_state ds) until) in
+    let whole = text_of (port_lines ports ds until) in
     let start : SinkState = record { told = g.K.Sink.bytes c.args.sink.now; faults = g.K.Sink.faults c.args.sink.now } in
     let p0 = run_begins ports ds until start in
     let rest0 = after_version ports ds until in
     let s1 : SinkState = record { told = g.K.Sink.bytes c.put_line.new.sink; faults = g.K.Sink.faults c.put_line.new.sink } in
     let p1 = part_goes_on start whole (bytes_of version) rest0 start s1 c.put_line.new.report p0 c.in_ok-put_line.ensures in
-    let inits = inits_from 0 ports (currents ds) in
+    let inits = inits_text ports ds in
     let rest1 = cycles_text ports ds until ++ (bytes_of (end until) ++ []) in
     let s2 : SinkState = record { told = g.K.Sink.bytes c.put_inits.new.sink; faults = g.K.Sink.faults c.put_inits.new.sink } in
     writes_failed _ c.from_residual-in_err-put_inits.result whole start s2 c.put_inits.new.report c.from_residual-in_err-put_inits.ensures.1
@@ -44,13 +41,13 @@ returns-in_err-run_cycles g c =
     let ports = c.args.ports.now in
     let ds = c.args.drivers.now in
     let until = c.args.until in
-    let whole = text_of (run_lines (port_signals 0 ports) (first_state ds) until) in
+    let whole = text_of (port_lines ports ds until) in
     let start : SinkState = record { told = g.K.Sink.bytes c.args.sink.now; faults = g.K.Sink.faults c.args.sink.now } in
     let p0 = run_begins ports ds until start in
     let rest0 = after_version ports ds until in
     let s1 : SinkState = record { told = g.K.Sink.bytes c.put_line.new.sink; faults = g.K.Sink.faults c.put_line.new.sink } in
     let p1 = part_goes_on start whole (bytes_of version) rest0 start s1 c.put_line.new.report p0 c.in_ok-put_line.ensures in
-    let inits = inits_from 0 ports (currents ds) in
+    let inits = inits_text ports ds in
     let rest1 = cycles_text ports ds until ++ (bytes_of (end until) ++ []) in
     let s2 : SinkState = record { told = g.K.Sink.bytes c.put_inits.new.sink; faults = g.K.Sink.faults c.put_inits.new.sink } in
     let p2 = part_goes_on start whole inits rest1 s1 s2 c.put_inits.new.report p1 c.in_ok-put_inits.ensures in
@@ -65,13 +62,13 @@ returns g c =
     let ports = c.args.ports.now in
     let ds = c.args.drivers.now in
     let until = c.args.until in
-    let whole = text_of (run_lines (port_signals 0 ports) (first_state ds) until) in
+    let whole = text_of (port_lines ports ds until) in
     let start : SinkState = record { told = g.K.Sink.bytes c.args.sink.now; faults = g.K.Sink.faults c.args.sink.now } in
     let p0 = run_begins ports ds until start in
     let rest0 = after_version ports ds until in
     let s1 : SinkState = record { told = g.K.Sink.bytes c.put_line.new.sink; faults = g.K.Sink.faults c.put_line.new.sink } in
     let p1 = part_goes_on start whole (bytes_of version) rest0 start s1 c.put_line.new.report p0 c.in_ok-put_line.ensures in
-    let inits = inits_from 0 ports (currents ds) in
+    let inits = inits_text ports ds in
     let rest1 = cycles_text ports ds until ++ (bytes_of (end until) ++ []) in
     let s2 : SinkState = record { told = g.K.Sink.bytes c.put_inits.new.sink; faults = g.K.Sink.faults c.put_inits.new.sink } in
     let p2 = part_goes_on start whole inits rest1 s1 s2 c.put_inits.new.report p1 c.in_ok-put_inits.ensures in

@@ -1,7 +1,6 @@
 use Rattle.std.proofs.Common.{◌≡◌, drop}
-use Rattle.vital_tool.specs.Driver.{currents}
 use Rattle.vital_tool.specs.Writes.{SinkState, ready}
-use Rattle.vital_tool.proofs.Parts.{Part, inits_from}
+use Rattle.vital_tool.proofs.Parts.{Part, inits_text}
 use Rattle.vital_tool.proofs.cycles.put_inits.Given as goal
 
 abbrev pub invariant-loop-i : goal.invariant-loop-i
@@ -10,5 +9,5 @@ invariant-loop-i g l =
     let now : SinkState = record { told = g.K.Sink.bytes l.sink; faults = g.K.Sink.faults l.sink } in
     record {
       is_ready : l.report ≡ ready;
-      part : Part start (inits_from 0 l.ports (currents l.drivers)) (inits_from l.i (drop l.i l.ports) (currents (drop l.i l.drivers))) now;
+      part : Part start (inits_text l.ports l.drivers) (inits_text (drop l.i l.ports) (drop l.i l.drivers)) now;
     }

@@ -1,9 +1,9 @@
 use Rattle.std.proofs.Common.{◌<◌, ◌+◌, length, get_or, drop, ap, ◌∙◌, arith}
 use Rattle.vital_tool.specs.Driver.{advance}
-use Rattle.vital_tool.specs.PlayText.{port_text}
+use Rattle.vital_tool.specs.Ports.{cycle_text, port_text}
 use Rattle.vital_tool.specs.Writes.{SinkState}
 use Rattle.vital_tool.proofs.Least.{next_time_after_more}
-use Rattle.vital_tool.proofs.OneCycle.{next_driver, advanced_more, rises_in, text_from, one_port}
+use Rattle.vital_tool.proofs.OneCycle.{next_driver, advanced_more, rises_in, one_port}
 use Rattle.vital_tool.proofs.Parts.{part_goes_on, part_stops, writes_failed}
 use Rattle.vital_tool.proofs.cycles.run_cycle.Goals as goal
 
@@ -30,9 +30,9 @@ returns-in_err-later-clause-writes g c =
     let within : i < length first = omega (arith, c.loop-i-test.true, c.requires.one_each) in
     let is = next_driver time i first ds d within c.loop-i.invariant.advanced in
     let one = one_port time delta ports first i p d c.loop-i-test.true within c.index-ports-i.is in
-    let whole = text_from time delta 0 ports first in
+    let whole = cycle_text time delta ports first in
     let piece = port_text time delta p (get_or first i d) in
-    let rest = text_from time delta (i + 1) (drop (i + 1) ports) (drop (i + 1) first) in
+    let rest = cycle_text time delta (drop (i + 1) ports) (drop (i + 1) first) in
     let failed = rw is at c.in_err-later.ensures.writes in
     writes_failed _ c.from_residual.result whole start next c.run_port.new.report c.from_residual.ensures.1
     (part_stops start whole piece rest now next (rw one at c.loop-i.invariant.part) failed)
@@ -53,9 +53,9 @@ loop-i-preserved g c =
     let within : i < length first = omega (arith, c.loop-i-test.true, c.requires.one_each) in
     let is = next_driver time i first ds d within c.loop-i.invariant.advanced in
     let one = one_port time delta ports first i p d c.loop-i-test.true within c.index-ports-i.is in
-    let whole = text_from time delta 0 ports first in
+    let whole = cycle_text time delta ports first in
     let piece = port_text time delta p (get_or first i d) in
-    let rest = text_from time delta (i + 1) (drop (i + 1) ports) (drop (i + 1) first) in
+    let rest = cycle_text time delta (drop (i + 1) ports) (drop (i + 1) first) in
     let written = rw is at c.in_ok-later.ensures.writes in
     let came = c.in_ok-later.ensures.after ∙ ap (advance time) is in
     record {

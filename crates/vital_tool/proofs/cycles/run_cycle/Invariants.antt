@@ -1,7 +1,8 @@
 use Rattle.std.proofs.Common.{◌≡◌, take, drop, map}
 use Rattle.vital_tool.specs.Driver.{advance, next_time}
+use Rattle.vital_tool.specs.Ports.{cycle_text}
 use Rattle.vital_tool.specs.Writes.{SinkState, ready}
-use Rattle.vital_tool.proofs.OneCycle.{AdvancedBefore, text_from}
+use Rattle.vital_tool.proofs.OneCycle.{AdvancedBefore}
 use Rattle.vital_tool.proofs.Parts.{Part}
 use Rattle.vital_tool.proofs.cycles.run_cycle.Given as goal
 
@@ -13,5 +14,5 @@ invariant-loop-i g l =
       is_ready : l.report ≡ ready;
       advanced : AdvancedBefore l.time l.i l.fn.drivers l.drivers;
       next : l.next ≡ next_time (map (advance l.time) (take l.i l.fn.drivers));
-      part : Part start (text_from l.time l.delta 0 l.ports l.fn.drivers) (text_from l.time l.delta l.i (drop l.i l.ports) (drop l.i l.fn.drivers)) now;
+      part : Part start (cycle_text l.time l.delta l.ports l.fn.drivers) (cycle_text l.time l.delta (drop l.i l.ports) (drop l.i l.fn.drivers)) now;
     }

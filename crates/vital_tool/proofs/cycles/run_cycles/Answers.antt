@@ -1,8 +1,7 @@
-use Rattle.std.proofs.Common.{◌+◌, cond, map, ap, sym, ◌∙◌}
-use Rattle.std.specs.Prelude.{◌==◌}
+use Rattle.std.proofs.Common.{map, ap, sym, ◌∙◌}
 use Rattle.vital_tool.specs.Driver.{advance}
-use Rattle.vital_tool.specs.Run.{up_to}
-use Rattle.vital_tool.specs.PlayText.{cycle_text, cycles_text}
+use Rattle.vital_tool.specs.Run.{delta_at, up_to}
+use Rattle.vital_tool.specs.Ports.{cycle_text, cycles_text}
 use Rattle.vital_tool.specs.Writes.{SinkState}
 use Rattle.vital_tool.proofs.CyclesLeft.{left_text, comes, goes_on_after, all_done}
 use Rattle.vital_tool.proofs.Parts.{part_stops, writes_failed}
@@ -73,7 +72,7 @@ returns-in_err-next g c =
     let now : SinkState = record { told = g.K.Sink.bytes c.loop-time.sink; faults = g.K.Sink.faults c.loop-time.sink } in
     let h = comes ports until start whole c.loop-time.now c.loop-time.delta time ds now c.loop-time.report c.loop-time.invariant.left (ap (up_to until) (sym c.loop-time.invariant.next) ∙ sym c.in-Some.ensures) in
     let next : SinkState = record { told = g.K.Sink.bytes c.run_cycle.new.sink; faults = g.K.Sink.faults c.run_cycle.new.sink } in
-    let delta = cond (time == c.loop-time.now) (c.loop-time.delta + 1) 0 in
+    let delta = delta_at time c.loop-time.now c.loop-time.delta in
     let failed = rw c.next_delta-delta.ensures at c.in_err-next.ensures.writes in
     writes_failed _ c.from_residual.result whole start next c.run_cycle.new.report c.from_residual.ensures.1
     (part_stops start whole (cycle_text time delta ports ds) (left_text h.left ports until time delta (map (advance time) ds)) now next h.part failed)

@@ -1,6 +1,6 @@
 use Rattle.std.proofs.Common.{◌≡◌}
 use Rattle.vital_tool.specs.Driver.{pending_count, next_time}
-use Rattle.vital_tool.specs.PlayText.{cycles_text}
+use Rattle.vital_tool.specs.Ports.{cycles_text}
 use Rattle.vital_tool.specs.Writes.{SinkState}
 use Rattle.vital_tool.proofs.CyclesLeft.{CyclesLeft}
 use Rattle.vital_tool.proofs.cycles.run_cycles.Given as goal
