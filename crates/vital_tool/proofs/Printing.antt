@@ -4,7 +4,6 @@ use Rattle.std.specs.Prelude.{IfSome, OnOk, OnErr}
 use Rattle.std.specs.List.{flat_map}
 use Rattle.std.proofs.lemmas.Bool.{false≢true}
 use Rattle.std.proofs.lemmas.List.{append-nil}
-use Rattle.vital_base.specs.Shelves.{Files}
 use Rattle.vital_base.specs.Faults.{Rose}
 use Rattle.vital_base.specs.Sinks.{appended, AppendsPrefix}
 use Rattle.vital_report.specs.Reporters.{ReporterState}
@@ -13,7 +12,7 @@ use Rattle.vital_tool.specs.declared.status.Status.{Status}
 use Rattle.vital_tool.specs.Run.{Event}
 use Rattle.vital_tool.specs.Answer.{Answer, text_of}
 use Rattle.vital_tool.specs.Stimuli.{event_line, text_of_event}
-use Rattle.vital_tool.specs.Outcome.{Gives, Prints, Runs, complete, input_failed, output_failed, memory_failed}
+use Rattle.vital_tool.specs.Outcome.{Gives, Prints, complete, output_failed, memory_failed}
 use Rattle.vital_tool.specs.Writes.{SinkState, ready, Writes, WritesAll, WritesPrefix}
 
 -- the text of the lines of events
@@ -29,6 +28,7 @@ prints_all answer old new reporter no_read no_write w =
       gives = λ other e. subst (λ (x : Answer). Gives x answer.status old.told new.told) (sym e) (complete refl w.told);
       no_read_fault = no_read;
       rose = λ e. absurd (no_write e);
+      same_count = λ e. w.faults;
       never_falls = omega (arith, w.faults);
     }
 
@@ -39,6 +39,7 @@ prints_prefix answer old new w =
       gives = λ other e. subst (λ (x : Answer). Gives x WriteFault old.told new.told) (sym e) (output_failed refl w.told);
       no_read_fault = λ e. absurd cc;
       rose = λ e. w.rose;
+      same_count = λ other. absurd (other refl);
       never_falls = w.never_falls;
     }
 
@@ -53,13 +54,14 @@ prints_nothing IsAnswer old =
       gives = λ answer h. memory_failed refl (0, appended_none old.told);
       no_read_fault = λ e. absurd cc;
       rose = λ e. absurd cc;
+      same_count = λ e. refl;
       never_falls = omega arith;
     }
 
 -- what is printed for each answer of one kind is printed for those of another that are of the first
 pub prints_for : (P Q : Answer → Type 0) (status : Status) (old new : SinkState) → Prints P status old new → ((answer : Answer) → Q answer → P answer) → Prints Q status old new
 prints_for P Q status old new p within =
-    record { gives = λ answer h. p.gives answer (within answer h); no_read_fault = p.no_read_fault; rose = p.rose; never_falls = p.never_falls }
+    record { gives = λ answer h. p.gives answer (within answer h); no_read_fault = p.no_read_fault; rose = p.rose; same_count = p.same_count; never_falls = p.never_falls }
 
 -- what holds of all files holds of those that are told
 pub if_told : {F : Type 0} (o : Option F) (P : F → Type 0) → ((x : F) → P x) → IfSome o P
@@ -69,39 +71,6 @@ if_told (Some x) P h = h x
 pub if_also : {F : Type 0} (o : Option F) (P Q : F → Type 0) → IfSome o P → ((x : F) → P x → Q x) → IfSome o Q
 if_also None P Q p h = tt
 if_also (Some x) P Q p h = h x p
-
--- a run that printed
-pub runs_printed : (IsAnswer : Files → Answer → Type 0) (P : Answer → Type 0) (status : Status) (told : Option Files) (is_steady : Type 0) (before after : ℕ) (old new : SinkState)
-    → Prints P status old new → before ≤ after → IfSome told (λ files. (answer : Answer) → IsAnswer files answer → P answer) → Runs IsAnswer status told is_steady before after old new
-runs_printed IsAnswer P status told is_steady before after old new p falls within =
-    record {
-      answered = if_also told _ _ within (λ files h answer is. p.gives answer (h answer is));
-      read_fault_rose = λ e. absurd (p.no_read_fault e);
-      read_fault_is_the_answer = λ e. absurd (p.no_read_fault e);
-      read_fault_writes_nothing = λ e. absurd (p.no_read_fault e);
-      write_fault_rose = p.rose;
-      shelf_never_falls = falls;
-      sink_never_falls = p.never_falls;
-    }
-
--- a run whose input failed
-pub runs_unread : (IsAnswer : Files → Answer → Type 0) (told : Option Files) (is_steady : Type 0) (before after : ℕ) (old : SinkState) → Rose before after → before ≤ after
-    → (is_steady → IfSome told (λ files. (answer : Answer) → IsAnswer files answer → answer.status ≡ ReadFault)) → Runs IsAnswer ReadFault told is_steady before after old old
-runs_unread IsAnswer told is_steady before after old rose falls missing =
-    record {
-      answered = if_told told _ (λ files answer is. input_failed refl refl);
-      read_fault_rose = λ e. rose;
-      read_fault_is_the_answer = λ e steady. missing steady;
-      read_fault_writes_nothing = λ e. refl;
-      write_fault_rose = λ e. absurd cc;
-      shelf_never_falls = falls;
-      sink_never_falls = omega arith;
-    }
-
--- a run whose memory failed
-pub runs_nothing : (IsAnswer : Files → Answer → Type 0) (told : Option Files) (is_steady : Type 0) (before after : ℕ) (old : SinkState) → before ≤ after → Runs IsAnswer NoMemory told is_steady before after old old
-runs_nothing IsAnswer told is_steady before after old falls =
-    runs_printed IsAnswer (λ answer. Unit {0}) NoMemory told is_steady before after old old (prints_nothing (λ answer. Unit {0}) old) falls (if_told told _ (λ files answer is. tt))
 
 not_stopped : (reporter : ReporterState) (old new : ℕ) → reporter ≡ ready → ((reporter.stopped ≡ true) ⊎ Rose old new) → Rose old new
 not_stopped reporter old new is (inl stopped) = absurd (false≢true (sym (ap (λ (r : ReporterState). r.stopped) is) ∙ stopped))

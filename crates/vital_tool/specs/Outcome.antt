@@ -21,6 +21,7 @@ pub record Prints (IsAnswer : Answer → Type 0) (status : Status) (old new : Si
   pub gives : (answer : Answer) → IsAnswer answer → Gives answer status old.told new.told
   pub no_read_fault : status ≢ ReadFault
   pub rose : status ≡ WriteFault → Rose old.faults new.faults
+  pub same_count : status ≢ WriteFault → new.faults ≡ old.faults
   pub never_falls : old.faults ≤ new.faults
 
 -- The same of a whole run of a job, over a shelf that told these files, was steady or not, and had these counts of faults
@@ -31,5 +32,7 @@ pub record Runs (IsAnswer : Files → Answer → Type 0) (status : Status) (told
   pub read_fault_is_the_answer : status ≡ ReadFault → is_steady → IfSome told (λ files. (answer : Answer) → IsAnswer files answer → answer.status ≡ ReadFault)
   pub read_fault_writes_nothing : status ≡ ReadFault → new.told ≡ old.told
   pub write_fault_rose : status ≡ WriteFault → Rose old.faults new.faults
+  pub same_shelf_count : status ≢ ReadFault → after ≡ before
+  pub same_sink_count : status ≢ WriteFault → new.faults ≡ old.faults
   pub shelf_never_falls : before ≤ after
   pub sink_never_falls : old.faults ≤ new.faults

@@ -1,6 +1,6 @@
 //! Loading the files of a run.
 
-ghost use Rattle.std.specs.Prelude.{◌≡◌, ◌≤◌, length, All, IfOk, IfSome, Err};
+ghost use Rattle.std.specs.Prelude.{◌≡◌, ◌≢◌, ◌≤◌, length, All, IfOk, IfSome, Err};
 ghost use Rattle.vital_base.specs.Faults.{Rose};
 ghost use Rattle.vital_tool.specs.Answer.{not_there};
 ghost use Rattle.vital_tool.specs.Loading.{all_loaded};
@@ -52,6 +52,7 @@ pub fn load_files<'a, S: Shelf>(
     ensures read_fault_rose { result ≡ Err NotLoaded.ReadFault → Rose (S.faults shelf.old) (S.faults shelf.new) }
     ensures read_fault_is_missing { result ≡ Err NotLoaded.ReadFault → S.is_steady shelf.old
         → IfSome (S.files shelf.old) (λ told. all_loaded told files.now ≡ Err not_there) }
+    ensures other_leaves_count { result ≢ Err NotLoaded.ReadFault → S.faults shelf.new ≡ S.faults shelf.old }
     ensures never_falls { S.faults shelf.old ≤ S.faults shelf.new }
 {
     let mut sources = Vec::new(alloc);

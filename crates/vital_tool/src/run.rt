@@ -1,6 +1,6 @@
 //! The one call that does all that the program does.
 
-ghost use Rattle.std.specs.Prelude.{◌≡◌, ◌≤◌, IfSome};
+ghost use Rattle.std.specs.Prelude.{◌≡◌, ◌≢◌, ◌≤◌, IfSome};
 ghost use Rattle.vital_base.specs.Faults.{Rose};
 ghost use Rattle.vital_tool.specs.Answer.{Answer};
 ghost use Rattle.vital_tool.specs.Outcome.{Gives};
@@ -39,7 +39,9 @@ pub fn run<S: Shelf, K: Sink>(
     // Writing failed only where the sink did.
     ensures write_fault_rose { result ≡ Status.WriteFault → Rose (K.faults sink.old) (K.faults sink.new) }
 
-    // The counts of faults never fall.
+    // Where the status is no such failure the counts stand still, and they never fall.
+    ensures shelf_stands_still { result ≢ Status.ReadFault → S.faults shelf.new ≡ S.faults shelf.old }
+    ensures sink_stands_still { result ≢ Status.WriteFault → K.faults sink.new ≡ K.faults sink.old }
     ensures shelf_never_falls { S.faults shelf.old ≤ S.faults shelf.new }
     ensures sink_never_falls { K.faults sink.old ≤ K.faults sink.new }
 {

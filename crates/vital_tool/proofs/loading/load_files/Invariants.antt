@@ -8,7 +8,7 @@ invariant-loop-file g l = record {
   loaded : IfSome (g.S.Shelf.files l.fn.shelf) (λ told. IsLoaded told l.files l.file-index l.sources.items);
   files_stay : g.S.Shelf.files l.shelf ≡ g.S.Shelf.files l.fn.shelf;
   steady_stays : g.S.Shelf.is_steady l.fn.shelf → g.S.Shelf.is_steady l.shelf;
-  never_falls : g.S.Shelf.faults l.fn.shelf ≤ g.S.Shelf.faults l.shelf;
+  count_stays : g.S.Shelf.faults l.shelf ≡ g.S.Shelf.faults l.fn.shelf;
   within : All (λ source. length source.text ≤ 16_777_216) l.sources.items;
   count : length l.sources.items ≡ l.file-index;
 }
