@@ -12,7 +12,7 @@ use Rattle.std.specs.declared.hash.BuildHasherDefault.{BuildHasherDefault}
 use Rattle.std.specs.declared.hash.FoldHasher.{FoldHasher}
 use Rattle.std.proofs.lemmas.List.{map-append}
 use Rattle.std.proofs.lemmas.List.Elements.{filter_map-append}
-use Rattle.vital_vhdl.specs.declared.unit.Unit.{Unit as Unit'}
+use Rattle.vital_nodes.specs.declared.unit.Unit.{Unit as Unit'}
 use Rattle.vital_library.specs.declared.position.Position.{Position}
 use Rattle.vital_library.specs.Entries.{positions_of_archs, group_of, entities_with_positions, entries_among, with_group}
 use Rattle.vital_library.specs.Units.{as_entity}

@@ -11,9 +11,9 @@ use Rattle.std.specs.Borrow.{Bor}
 use Rattle.std.specs.HashSet.{HashSet}
 use Rattle.std.specs.declared.hash.BuildHasherDefault.{BuildHasherDefault}
 use Rattle.std.specs.declared.hash.FoldHasher.{FoldHasher}
-use Rattle.vital_vhdl.specs.declared.unit.Arch.{Arch}
-use Rattle.vital_vhdl.specs.declared.unit.Unit.{Unit as Unit'}
-use Rattle.vital_vhdl.specs.declared.unit.Unit.TheVariants as variant
+use Rattle.vital_nodes.specs.declared.unit.Arch.{Arch}
+use Rattle.vital_nodes.specs.declared.unit.Unit.{Unit as Unit'}
+use Rattle.vital_nodes.specs.declared.unit.Unit.TheVariants as variant
 use Rattle.vital_library.specs.declared.fault.Fault.{Fault}
 use Rattle.vital_library.specs.Faults.{shares_name, duplicate, duplicates_after, duplicates, has_entity, no_entity, without_entity, sooner, least_of, faults}
 use Rattle.vital_library.specs.Names.{has_name, without_name}
@@ -36,9 +36,6 @@ shares-push units u w =
 
 abbrev if-shared : Bool → Unit' → List Unit'
 if-shared b w = cond b (w ∷ []) []
-
-duplicates-last : (b : Bool) (w : Unit') → cond b (w ∷ []) [] ≡ if-shared b w
-duplicates-last b w = refl
 
 duplicates-push : (before units : List Unit') (w : Unit') → duplicates_after before (units ++ w ∷ []) ≡ duplicates_after before units ++ if-shared (shares-any w (before ++ units)) w
 duplicates-push before [] w = ap (λ us. if-shared (shares-any w us) w) (sym (append-nil before))

@@ -6,3 +6,4 @@ pub mod NumberedLemmas
 pub mod LimitLemmas
 pub mod EntryLemmas
 pub mod LibraryLemmas
+pub mod Letters

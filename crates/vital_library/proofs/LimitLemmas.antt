@@ -6,8 +6,8 @@ use Rattle.std.proofs.lemmas.List.{take_more, take-append-drop, length-map}
 use Rattle.std.specs.Prelude.{Some}
 use Rattle.std.specs.List.{slice_get}
 use Rattle.std.specs.Option.{option_map}
-use Rattle.vital_vhdl.specs.declared.unit.Unit.{Unit as Unit'}
-use Rattle.vital_vhdl.specs.declared.unit.Units.{Units}
+use Rattle.vital_nodes.specs.declared.unit.Unit.{Unit as Unit'}
+use Rattle.vital_nodes.specs.declared.unit.Units.{Units}
 use Rattle.vital_library.specs.declared.error.LibraryError.{LibraryError}
 use Rattle.vital_library.specs.declared.error.LibraryError.TheVariants as error
 use Rattle.vital_library.specs.Limits.{IsPastLimit}

@@ -6,8 +6,8 @@ use Rattle.std.specs.Option.{option_and_then}
 use Rattle.std.proofs.lemmas.List.{map-append, take_more, length-take-le, length_push}
 use Rattle.std.proofs.lemmas.Grind.{flat_map-append}
 use Rattle.std.proofs.lemmas.Simd.{map-map}
-use Rattle.vital_vhdl.specs.declared.unit.Unit.{Unit as Unit'}
-use Rattle.vital_vhdl.specs.declared.unit.Units.{Units}
+use Rattle.vital_nodes.specs.declared.unit.Unit.{Unit as Unit'}
+use Rattle.vital_nodes.specs.declared.unit.Units.{Units}
 use Rattle.vital_library.specs.declared.position.Position.{Position}
 use Rattle.vital_library.specs.declared.unit_at.UnitAt.{UnitAt}
 use Rattle.vital_library.specs.Positions.{unit_at, numbered_from, numbered, seen, units_in}

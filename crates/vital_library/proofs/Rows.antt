@@ -2,11 +2,11 @@
 use Rattle.std.proofs.Common.{◌≡◌, ℕ, ◌+◌, List, [], ◌∷◌, refl}
 use Rattle.std.specs.Prelude.{codes, Result, Ok, Err}
 use Rattle.vital_base.specs.declared.place.Place.{Place}
-use Rattle.vital_vhdl.specs.declared.expr.Identifier.{Identifier}
-use Rattle.vital_vhdl.specs.declared.unit.Role.TheVariants.{Lib}
-use Rattle.vital_vhdl.specs.declared.unit.Unit.{Unit as Unit'}
-use Rattle.vital_vhdl.specs.declared.unit.Unit.TheVariants as unit
-use Rattle.vital_vhdl.specs.declared.unit.Units.{Units}
+use Rattle.vital_nodes.specs.declared.identifier.Identifier.{Identifier}
+use Rattle.vital_nodes.specs.declared.unit.Role.TheVariants.{Lib}
+use Rattle.vital_nodes.specs.declared.unit.Unit.{Unit as Unit'}
+use Rattle.vital_nodes.specs.declared.unit.Unit.TheVariants as unit
+use Rattle.vital_nodes.specs.declared.unit.Units.{Units}
 use Rattle.vital_library.specs.declared.error.LibraryError.{LibraryError}
 use Rattle.vital_library.specs.declared.error.LibraryError.TheVariants as error
 use Rattle.vital_library.specs.Gathered.{gathered}

@@ -9,9 +9,9 @@ use Rattle.std.specs.declared.alloc.Global.{Global}
 use Rattle.std.specs.declared.vec.Vec.{Vec}
 use Rattle.std.specs.declared.hash.BuildHasherDefault.{BuildHasherDefault}
 use Rattle.std.specs.declared.hash.FoldHasher.{FoldHasher}
-use Rattle.vital_vhdl.specs.declared.unit.Entity.{Entity}
-use Rattle.vital_vhdl.specs.declared.unit.Unit.{Unit as Unit'}
-use Rattle.vital_vhdl.specs.declared.unit.Unit.TheVariants as unit
+use Rattle.vital_nodes.specs.declared.unit.Entity.{Entity}
+use Rattle.vital_nodes.specs.declared.unit.Unit.{Unit as Unit'}
+use Rattle.vital_nodes.specs.declared.unit.Unit.TheVariants as unit
 use Rattle.vital_library.specs.declared.entry.Entry.{Entry}
 use Rattle.vital_library.specs.declared.position.Position.{Position}
 use Rattle.vital_library.specs.Units.{as_entity}

@@ -2,11 +2,10 @@
 use Rattle.std.specs.Prelude.{◌≡◌, List, Option, Some, None, Result, Ok, Err}
 use Rattle.std.specs.List.{slice_get}
 use Rattle.vital_base.specs.declared.place.Place.{Place}
-use Rattle.vital_vhdl.specs.declared.unit.Unit.{Unit as Unit'}
-use Rattle.vital_vhdl.specs.declared.unit.Units.{Units}
+use Rattle.vital_nodes.specs.declared.unit.Unit.{Unit as Unit'}
+use Rattle.vital_nodes.specs.declared.unit.Units.{Units}
 use Rattle.vital_library.specs.declared.error.LibraryError.{LibraryError}
 use Rattle.vital_library.specs.declared.error.LibraryError.TheVariants as error
-use Rattle.vital_library.specs.declared.error.TheConstants.{MOST_UNITS}
 use Rattle.vital_library.specs.declared.fault.Fault.{Fault}
 use Rattle.vital_library.specs.declared.fault.FaultKind.{FaultKind}
 use Rattle.vital_library.specs.declared.fault.FaultKind.TheVariants.{Duplicate, NoEntity}
@@ -30,7 +29,7 @@ limited files (Some extra) = Err (error.TooManyUnits (place_of extra))
 
 -- What comes of files.
 abbrev pub gathered : List Units → Result (List Units) LibraryError
-gathered files = limited files (slice_get (units_of files) MOST_UNITS)
+gathered files = limited files (slice_get (units_of files) 4096)
 
 -- An answer gives what comes of files, or that there was no memory for it.
 abbrev pub GivesLibrary : Result (List Units) LibraryError → Result (List Units) LibraryError → Type 0

@@ -1,6 +1,6 @@
 -- What is true of every library.
 use Rattle.std.specs.Prelude.{◌≡◌, List, Some, Ok, map}
-use Rattle.vital_vhdl.specs.declared.unit.Units.{Units}
+use Rattle.vital_nodes.specs.declared.unit.Units.{Units}
 use Rattle.vital_library.specs.declared.entry.Entry.{Entry}
 use Rattle.vital_library.specs.Gathered.{gathered}
 use Rattle.vital_library.specs.Positions.{entity_at, arch_at}

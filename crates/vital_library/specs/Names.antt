@@ -6,9 +6,9 @@ use Rattle.std.specs.Borrow.{Bor}
 use Rattle.std.specs.HashSet.{HashSet}
 use Rattle.std.specs.declared.hash.BuildHasherDefault.{BuildHasherDefault}
 use Rattle.std.specs.declared.hash.FoldHasher.{FoldHasher}
-use Rattle.vital_vhdl.specs.declared.unit.Arch.{Arch}
-use Rattle.vital_vhdl.specs.declared.unit.Unit.{Unit as Unit'}
-use Rattle.vital_vhdl.specs.declared.unit.Unit.TheVariants as unit
+use Rattle.vital_nodes.specs.declared.unit.Arch.{Arch}
+use Rattle.vital_nodes.specs.declared.unit.Unit.{Unit as Unit'}
+use Rattle.vital_nodes.specs.declared.unit.Unit.TheVariants as unit
 use Rattle.vital_library.specs.declared.names.DeclaredNames.{DeclaredNames}
 use Rattle.vital_library.specs.Units.{identifier_of, archs_among}
 

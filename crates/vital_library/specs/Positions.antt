@@ -2,10 +2,10 @@
 use Rattle.std.specs.Prelude.{ℕ, List, Option, map}
 use Rattle.std.specs.List.{slice_get, enumerate_from, flat_map}
 use Rattle.std.specs.Option.{option_and_then}
-use Rattle.vital_vhdl.specs.declared.unit.Arch.{Arch}
-use Rattle.vital_vhdl.specs.declared.unit.Entity.{Entity}
-use Rattle.vital_vhdl.specs.declared.unit.Unit.{Unit as Unit'}
-use Rattle.vital_vhdl.specs.declared.unit.Units.{Units}
+use Rattle.vital_nodes.specs.declared.unit.Arch.{Arch}
+use Rattle.vital_nodes.specs.declared.unit.Entity.{Entity}
+use Rattle.vital_nodes.specs.declared.unit.Unit.{Unit as Unit'}
+use Rattle.vital_nodes.specs.declared.unit.Units.{Units}
 use Rattle.vital_library.specs.declared.position.Position.{Position}
 use Rattle.vital_library.specs.declared.unit_at.UnitAt.{UnitAt}
 use Rattle.vital_library.specs.Units.{as_entity, as_arch}

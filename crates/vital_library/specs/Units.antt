@@ -4,12 +4,12 @@ use Rattle.std.specs.List.{flat_map, filter_map, slice_get}
 use Rattle.std.specs.Option.{option_map_or}
 use Rattle.std.specs.Str.{bytes_eq}
 use Rattle.vital_base.specs.declared.place.Place.{Place}
-use Rattle.vital_vhdl.specs.declared.expr.Identifier.{Identifier}
-use Rattle.vital_vhdl.specs.declared.unit.Arch.{Arch}
-use Rattle.vital_vhdl.specs.declared.unit.Entity.{Entity}
-use Rattle.vital_vhdl.specs.declared.unit.Unit.{Unit as Unit'}
-use Rattle.vital_vhdl.specs.declared.unit.Unit.TheVariants as unit
-use Rattle.vital_vhdl.specs.declared.unit.Units.{Units}
+use Rattle.vital_nodes.specs.declared.identifier.Identifier.{Identifier}
+use Rattle.vital_nodes.specs.declared.unit.Arch.{Arch}
+use Rattle.vital_nodes.specs.declared.unit.Entity.{Entity}
+use Rattle.vital_nodes.specs.declared.unit.Unit.{Unit as Unit'}
+use Rattle.vital_nodes.specs.declared.unit.Unit.TheVariants as unit
+use Rattle.vital_nodes.specs.declared.unit.Units.{Units}
 
 -- All units, in the order of the files, and in each file in its order.
 abbrev pub units_of : List Units → List Unit'

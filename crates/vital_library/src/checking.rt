@@ -9,7 +9,7 @@ use crate::error::LibraryError;
 use crate::faults::least_fault;
 use crate::unit_at::units_at;
 use std::alloc::Global;
-use vital_vhdl::Units;
+use vital_nodes::Units;
 
 /// The entries of files, or how the files are refused.
 pub fn entries_of(alloc: Global, files: &[Units]) -> Result<Vec<Entry>, LibraryError>

@@ -9,7 +9,7 @@ use crate::position::Position;
 use crate::unit_at::UnitAt;
 use std::alloc::{AllocError, Global};
 use std::collections::HashMap;
-use vital_vhdl::Unit;
+use vital_nodes::Unit;
 
 /// Where an entity stands, and where its architectures do.
 #[derive(Drop)]

@@ -10,7 +10,7 @@ use crate::names::{DeclaredNames, identifier_of, put_name};
 use crate::unit_at::UnitAt;
 use std::alloc::{AllocError, Global};
 use std::collections::HashSet;
-use vital_vhdl::{Arch, Unit};
+use vital_nodes::{Arch, Unit};
 
 /// The fault of units that counts, if there is one.
 pub fn least_fault<'a>(alloc: Global, units: &'a [UnitAt<'a>]) -> Result<Option<Fault>, AllocError>

@@ -11,7 +11,7 @@ use crate::error::LibraryError;
 use std::alloc::Global;
 use std::marker::Model;
 use vital_base::List;
-use vital_vhdl::{Arch, Entity, Units};
+use vital_nodes::{Arch, Entity, Units};
 
 /// The units of several files as one library, in the order of the files and in each file in its order. Contracts see a library
 /// as its files. They have no fault, so the entities have different names, and so do the architectures of an entity.
@@ -24,9 +24,9 @@ pub struct Library {
 
 impl Model for Library {
     ghost use Rattle.vital_library.specs.Kept.{IsLibrary};
-    ghost use Rattle.vital_vhdl.specs.declared.unit.Units.{Units};
+    ghost use Rattle.vital_nodes.specs.declared.unit.Units.{Units};
     ghost use Rattle.std.specs.Prelude.{List};
-    ghost use Rattle.vital_vhdl.specs.contracts.unit.Units as units;
+    ghost use Rattle.vital_nodes.specs.contracts.unit.Units as units;
     ghost use Rattle.std.specs.Coded.{codes};
 
     ghost Value = { List Units };

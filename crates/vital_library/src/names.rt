@@ -2,14 +2,14 @@
 
 ghost use Rattle.std.specs.Prelude.{◌≡◌, ◌&&◌, ◌||◌, ℕ, false, not, List, IfOk, OnOk};
 ghost use Rattle.std.specs.Str.{bytes_eq};
-ghost use Rattle.vital_vhdl.specs.declared.unit.Unit.{Unit as Unit'};
+ghost use Rattle.vital_nodes.specs.declared.unit.Unit.{Unit as Unit'};
 ghost use Rattle.vital_library.specs.Faults.{shares_name};
 ghost use Rattle.vital_library.specs.Names.{has_name, has_names, is_declared};
 ghost use Rattle.vital_library.specs.Units.{identifier_of};
 
 use std::alloc::{AllocError, Global};
 use std::collections::HashSet;
-use vital_vhdl::{Identifier, Unit};
+use vital_nodes::{Identifier, Unit};
 
 /// Names that were declared, borrowed from the units.
 #[derive(Drop)]

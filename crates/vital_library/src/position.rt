@@ -4,7 +4,7 @@ ghost use Rattle.std.specs.Prelude.{◌≡◌};
 ghost use Rattle.std.specs.Option.{option_copied};
 ghost use Rattle.vital_library.specs.Positions.{arch_at, entity_at, unit_at};
 
-use vital_vhdl::{Arch, Entity, Unit, Units};
+use vital_nodes::{Arch, Entity, Unit, Units};
 
 /// Where a unit stands: the number of its file, and its own in that file, each from 0.
 #[derive(Clone, Copy, Debug, PartialEq, Eq)]

@@ -1,198 +1,236 @@
 use super::*;
+use sqlite_items::Items;
 use std::alloc::Global;
 use std::test::Fail;
 use vital_base::{List, Place};
-use vital_vhdl::{Role, UnitError, Units, read_units};
+use vital_lex::Kind;
+use vital_nodes::{Arch, Config, Entity, Identifier, IdentifierName, Pack, Role, Unit, Units};
 
-/// The files with these texts, gathered.
-fn gathered(alloc: Global, texts: &[&[u8]]) -> Result<Result<Library, LibraryError>, UnitError> {
-    let mut files: Vec<Units> = Vec::new(alloc);
-    let mut number = 0u32;
-    for text in texts {
-        if text.len() > 1_000_000 {
-            return Err(UnitError::NoMemory);
-        }
-        files.push(read_units(alloc, number, Role::Lib, text, 30_000)?)?;
-        number = number.wrapping_add(1);
-    }
-    Ok(gather(alloc, List::new(files)))
+/// A unit of a test, with its name and that of its entity, each a letter. The units of a file stand one on each line, with
+/// the unit at column 1, its identifier at column 5 and that of its entity at column 9.
+#[derive(Clone, Copy)]
+enum Given {
+    Entity(u8),
+    Pack(u8),
+    Config(u8),
+    Arch(u8, u8),
 }
 
-/// How the files with these texts are refused.
-fn refusal(alloc: Global, texts: &[&[u8]]) -> Result<Option<LibraryError>, UnitError> {
-    match gathered(alloc, texts)? {
-        Ok(_) => Ok(None),
-        Err(error) => Ok(Some(error)),
-    }
-}
-
-fn at(file: u32, line: u32, column: u32) -> Place {
+const fn at(file: u32, line: u32, column: u32) -> Place {
     Place { file, line, column }
 }
 
-fn duplicate(file: u32, line: u32, column: u32) -> Option<LibraryError> {
-    let place = at(file, line, column);
-    Some(LibraryError::Duplicate { place })
+/// The extended identifier of a letter.
+fn identifier(alloc: Global, place: Place, letter: u8) -> Result<Identifier, Fail> {
+    let letter = if letter.is_ascii_lowercase() {
+        letter
+    } else {
+        b'x'
+    };
+    let bytes = [b'\\', letter, b'\\'];
+    match IdentifierName::of_token(alloc, Kind::ExtendedIdentifier as u16, &bytes)? {
+        Some(name) => Ok(Identifier { place, name }),
+        None => Err(Fail::from("no identifier")),
+    }
 }
 
-fn no_entity(file: u32, line: u32, column: u32) -> Option<LibraryError> {
-    let place = at(file, line, column);
-    Some(LibraryError::NoEntity { place })
+fn unit(alloc: Global, file: u32, line: u32, given: Given) -> Result<Unit, Fail> {
+    let place = at(file, line, 1);
+    let own = at(file, line, 5);
+    let of = at(file, line, 9);
+    let unit = match given {
+        Given::Entity(name) => Unit::Entity(Entity {
+            place,
+            identifier: identifier(alloc, own, name)?,
+            generics: Items::new(alloc),
+            ports: Items::new(alloc),
+            declarations: Items::new(alloc),
+            statements: Items::new(alloc),
+        }),
+        Given::Pack(name) => Unit::Pack(Pack {
+            place,
+            identifier: identifier(alloc, own, name)?,
+            declarations: Items::new(alloc),
+        }),
+        Given::Config(name) => Unit::Config(Config {
+            place,
+            identifier: identifier(alloc, own, name)?,
+            entity: identifier(alloc, of, b'e')?,
+            arch: identifier(alloc, of, b'a')?,
+        }),
+        Given::Arch(name, entity) => Unit::Arch(Arch {
+            place,
+            identifier: identifier(alloc, own, name)?,
+            entity: identifier(alloc, of, entity)?,
+            declarations: Items::new(alloc),
+            statements: Items::new(alloc),
+        }),
+    };
+    Ok(unit)
+}
+
+fn file(alloc: Global, number: u32, all: &[Given]) -> Result<Units, Fail> {
+    let mut units = Vec::new(alloc);
+    let mut line = 1u32;
+    for given in all {
+        units.push(unit(alloc, number, line, *given)?)?;
+        line = line.wrapping_add(1);
+    }
+    Ok(Units {
+        role: Role::Lib,
+        units: List::new(units),
+        tokens: 0,
+    })
+}
+
+/// Two files, gathered.
+fn gathered(alloc: Global, files: [&[Given]; 2]) -> Result<Result<Library, LibraryError>, Fail> {
+    let mut all: Vec<Units> = Vec::new(alloc);
+    all.push(file(alloc, 0, files[0])?)?;
+    all.push(file(alloc, 1, files[1])?)?;
+    Ok(gather(alloc, List::new(all)))
+}
+
+/// How files are refused, with the number of the file and the line of the unit.
+#[derive(Clone, Copy)]
+enum Found {
+    Nothing,
+    Duplicate(u32, u32),
+    NoEntity(u32, u32),
+}
+
+fn refusal(found: Found) -> Option<LibraryError> {
+    match found {
+        Found::Nothing => None,
+        Found::Duplicate(file, line) => Some(LibraryError::Duplicate {
+            place: at(file, line, 5),
+        }),
+        Found::NoEntity(file, line) => Some(LibraryError::NoEntity {
+            place: at(file, line, 9),
+        }),
+    }
+}
+
+type Row = ([&'static [Given]; 2], Found);
+
+/// Libraries: other kinds of units share names, and an entity may come after its architecture.
+const GOOD: [Row; 5] = [
+    ([&[], &[]], Found::Nothing),
+    (
+        [
+            &[Given::Entity(b'd'), Given::Entity(b'e')],
+            &[Given::Arch(b'a', b'd'), Given::Arch(b'a', b'e')],
+        ],
+        Found::Nothing,
+    ),
+    (
+        [
+            &[
+                Given::Entity(b'e'),
+                Given::Pack(b'a'),
+                Given::Arch(b'a', b'e'),
+            ],
+            &[],
+        ],
+        Found::Nothing,
+    ),
+    (
+        [
+            &[Given::Config(b'a')],
+            &[Given::Entity(b'e'), Given::Arch(b'a', b'e')],
+        ],
+        Found::Nothing,
+    ),
+    (
+        [&[Given::Arch(b'a', b'e')], &[Given::Entity(b'e')]],
+        Found::Nothing,
+    ),
+];
+
+const DUPLICATES: [Row; 6] = [
+    (
+        [&[Given::Entity(b'a'), Given::Entity(b'a')], &[]],
+        Found::Duplicate(0, 2),
+    ),
+    (
+        [
+            &[Given::Entity(b'a')],
+            &[Given::Pack(b'p'), Given::Entity(b'a')],
+        ],
+        Found::Duplicate(1, 2),
+    ),
+    (
+        [&[Given::Entity(b'a'), Given::Pack(b'a')], &[]],
+        Found::Duplicate(0, 2),
+    ),
+    (
+        [&[Given::Config(b'a')], &[Given::Pack(b'a')]],
+        Found::Duplicate(1, 1),
+    ),
+    (
+        [
+            &[
+                Given::Entity(b'e'),
+                Given::Arch(b'a', b'e'),
+                Given::Arch(b'a', b'e'),
+            ],
+            &[],
+        ],
+        Found::Duplicate(0, 3),
+    ),
+    (
+        [
+            &[Given::Pack(b'p'), Given::Pack(b'p')],
+            &[Given::Arch(b'a', b'e')],
+        ],
+        Found::Duplicate(0, 2),
+    ),
+];
+
+const WITHOUT_ENTITY: [Row; 4] = [
+    ([&[Given::Arch(b'a', b'e')], &[]], Found::NoEntity(0, 1)),
+    (
+        [&[Given::Pack(b'e')], &[Given::Arch(b'a', b'e')]],
+        Found::NoEntity(1, 1),
+    ),
+    (
+        [
+            &[Given::Arch(b'a', b'e')],
+            &[Given::Pack(b'p'), Given::Pack(b'p')],
+        ],
+        Found::NoEntity(0, 1),
+    ),
+    (
+        [
+            &[
+                Given::Pack(b'p'),
+                Given::Arch(b'a', b'e'),
+                Given::Pack(b'p'),
+            ],
+            &[],
+        ],
+        Found::NoEntity(0, 2),
+    ),
+];
+
+/// Whether each of the rows is refused as it says.
+fn are_refused(alloc: Global, rows: &[Row]) -> Result<bool, Fail> {
+    for (files, found) in rows {
+        let refused = match gathered(alloc, *files)? {
+            Ok(_) => None,
+            Err(error) => Some(error),
+        };
+        if refused != refusal(*found) {
+            return Ok(false);
+        }
+    }
+    Ok(true)
 }
 
 #[test]
 fn refuses_the_fault_with_the_least_place(rt: HostRuntime) -> Result<(), Fail> {
-    let rows: [([&[u8]; 2], Option<LibraryError>); 17] = [
-        ([b"", b""], None),
-        (
-            [b"entity A is end; entity a is end;", b""],
-            duplicate(0, 1, 25),
-        ),
-        (
-            [b"entity A is end;", b"\n entity A is end;"],
-            duplicate(1, 2, 9),
-        ),
-        (
-            [b"entity A is end;\npackage A is end;", b""],
-            duplicate(0, 2, 9),
-        ),
-        (
-            [
-                b"configuration A of E is for B end for; end;",
-                b"package A is end;",
-            ],
-            duplicate(1, 1, 9),
-        ),
-        ([b"entity A is end; entity \\A\\ is end;", b""], None),
-        (
-            [
-                b"entity E is end; architecture A of E is begin end; architecture a of e is begin end;",
-                b"",
-            ],
-            duplicate(0, 1, 65),
-        ),
-        (
-            [
-                b"entity D is end; entity E is end;",
-                b"architecture A of D is begin end; architecture A of E is begin end;",
-            ],
-            None,
-        ),
-        (
-            [
-                b"entity E is end; package A is end; architecture A of E is begin end;",
-                b"",
-            ],
-            None,
-        ),
-        (
-            [
-                b"configuration A of E is for A end for; end;",
-                b"entity E is end; architecture A of E is begin end;",
-            ],
-            None,
-        ),
-        (
-            [b"architecture A of E is begin end;", b"entity E is end;"],
-            None,
-        ),
-        (
-            [b"architecture A of E is begin end;", b""],
-            no_entity(0, 1, 19),
-        ),
-        (
-            [b"package E is end;", b"architecture A of E is begin end;"],
-            no_entity(1, 1, 19),
-        ),
-        (
-            [
-                b"architecture A of E is begin end;",
-                b"package P is end; package P is end;",
-            ],
-            no_entity(0, 1, 19),
-        ),
-        (
-            [
-                b"package P is end; package P is end;",
-                b"architecture A of E is begin end;",
-            ],
-            duplicate(0, 1, 27),
-        ),
-        (
-            [
-                b"package P is end;\narchitecture A of E is begin end; package P is end;",
-                b"",
-            ],
-            no_entity(0, 2, 19),
-        ),
-        (
-            [
-                b"architecture A of E is begin end;\narchitecture A of E is begin end;",
-                b"entity E is end;",
-            ],
-            duplicate(0, 2, 14),
-        ),
-    ];
-    for (texts, found) in rows {
-        assert_eq!(rt; refusal(rt.alloc(), &texts)?, found);
-    }
-    Ok(())
-}
-
-#[test]
-fn entities_and_their_architectures_stand_in_order(rt: HostRuntime) -> Result<(), Fail> {
-    let texts: [&[u8]; 2] = [
-        b"architecture X of B is begin end; entity C is end; entity A is end;",
-        b"package P is end; architecture Y of A is begin end; entity B is end; architecture Z of B is begin end;",
-    ];
-    let Ok(library) = gathered(rt.alloc(), &texts)? else {
-        return Err(Fail::from("refused"));
-    };
-    assert_eq!(rt; library.files().len(), 2);
-    assert_eq!(rt; library.entity_count(), 3);
-    let rows: [(&[u8], &[&[u8]]); 3] = [(b"c", &[]), (b"a", &[b"y"]), (b"b", &[b"x", b"z"])];
-    let mut entity = 0u32;
-    for (name, archs) in rows {
-        if entity >= library.entity_count() {
-            return Err(Fail::from("too few entities"));
-        }
-        assert_eq!(rt; library.entity(entity).identifier.name.as_slice(), name);
-        let mut arch = 0u32;
-        for arch_name in archs {
-            if arch >= library.arch_count(entity) {
-                return Err(Fail::from("too few architectures"));
-            }
-            assert_eq!(rt;
-                library.arch(entity, arch).identifier.name.as_slice(),
-                *arch_name
-            );
-            arch = arch.wrapping_add(1);
-        }
-        assert_eq!(rt; library.arch_count(entity), arch);
-        entity = entity.wrapping_add(1);
-    }
-    Ok(())
-}
-
-/// A file of packages with different names, one on each line.
-fn packages(alloc: Global, count: u32) -> Result<String, UnitError> {
-    let mut text = String::new(alloc);
-    for number in 0..count {
-        let package = format!(in alloc; "package P{number} is end;\n")?;
-        text.push_str(package.as_str())?;
-    }
-    Ok(text)
-}
-
-#[test]
-fn refuses_the_first_unit_past_the_limit(rt: HostRuntime) -> Result<(), Fail> {
-    let most = packages(rt.alloc(), 4096)?;
-    assert_eq!(rt; refusal(rt.alloc(), &[most.as_bytes()])?, None);
-    let place = at(1, 1, 2);
-    let more: [&[u8]; 2] = [most.as_bytes(), b" package P0 is end;"];
-    assert_eq!(rt;
-        refusal(rt.alloc(), &more)?,
-        Some(LibraryError::TooManyUnits { place })
-    );
+    assert!(rt; are_refused(rt.alloc(), &GOOD)?);
+    assert!(rt; are_refused(rt.alloc(), &DUPLICATES)?);
+    assert!(rt; are_refused(rt.alloc(), &WITHOUT_ENTITY)?);
     Ok(())
 }

@@ -9,7 +9,7 @@ use crate::error::{LibraryError, MOST_UNITS};
 use crate::position::Position;
 use std::alloc::Global;
 use vital_base::Place;
-use vital_vhdl::{Unit, Units};
+use vital_nodes::{Unit, Units};
 
 /// A unit and where it stands.
 #[derive(Clone, Copy)]
@@ -48,7 +48,7 @@ fn put_units<'a>(
     file: usize,
     units: &'a [Unit],
 ) -> Result<(), LibraryError>
-    requires { length all.old.items ≤ MOST_UNITS }
+    requires { length all.old.items ≤ 4096 }
     ensures units { OnOk result (map seen all.new.items ≡ map seen all.old.items ++ numbered_from file 0 units.now) }
     ensures limit { IsLimited result (units_in all.old.items ++ units.now) }
 {

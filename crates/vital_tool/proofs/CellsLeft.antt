@@ -17,7 +17,7 @@ use Rattle.vital_tool.specs.Stages.{IsLibraryAnswer}
 use Rattle.vital_tool.specs.declared.loading.Source.{Source}
 use Rattle.vital_tool.specs.declared.refusal.Refusal.{Refusal}
 use Rattle.vital_words.specs.declared.job.Job.{Job}
-use Rattle.vital_vhdl.specs.declared.unit.Units.{Units}
+use Rattle.vital_nodes.specs.declared.unit.Units.{Units}
 
 -- the line of the next of some things, and then those of the others
 pub one_line : {A : Type 0} (line : A → Said) (xs : List A) (i : ℕ) (x : A) → slice_get xs i ≡ Some x

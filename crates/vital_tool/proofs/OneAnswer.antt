@@ -37,12 +37,12 @@ use Rattle.vital_tool.specs.declared.status.Status.TheVariants.{Done, Stimulus, 
 use Rattle.vital_tool.proofs.OneRun.{one_run, started, stimuli_run}
 use Rattle.vital_tool.proofs.Printing.{prints_nothing}
 use Rattle.vital_vhdl.specs.Outcomes.{IsReading}
-use Rattle.vital_vhdl.specs.declared.reading.UnitError.{UnitError}
-use Rattle.vital_vhdl.specs.declared.reading.UnitError.TheVariants as unit_error
-use Rattle.vital_vhdl.specs.declared.unit.Role.{Role}
-use Rattle.vital_vhdl.specs.declared.unit.Role.TheVariants.{Lib}
-use Rattle.vital_vhdl.specs.declared.unit.Unit.{Unit as Unit'}
-use Rattle.vital_vhdl.specs.declared.unit.Units.{Units}
+use Rattle.vital_vhdl.specs.declared.read.UnitError.{UnitError}
+use Rattle.vital_vhdl.specs.declared.read.UnitError.TheVariants as unit_error
+use Rattle.vital_nodes.specs.declared.unit.Role.{Role}
+use Rattle.vital_nodes.specs.declared.unit.Role.TheVariants.{Lib}
+use Rattle.vital_nodes.specs.declared.unit.Unit.{Unit as Unit'}
+use Rattle.vital_nodes.specs.declared.unit.Units.{Units}
 use Rattle.vital_words.specs.Jobs.{job}
 use Rattle.vital_words.specs.declared.job.Job.{Job}
 use Rattle.vital_words.specs.declared.job.NamedFile.{NamedFile}

@@ -6,9 +6,9 @@ use Rattle.vital_library.specs.Units.{entities, archs_of}
 use Rattle.vital_report.specs.Lines.{Said, cell_read}
 use Rattle.vital_tool.specs.Answer.{Answer, text_of}
 use Rattle.vital_tool.specs.declared.status.Status.TheVariants.{Done}
-use Rattle.vital_vhdl.specs.declared.unit.Arch.{Arch}
-use Rattle.vital_vhdl.specs.declared.unit.Entity.{Entity}
-use Rattle.vital_vhdl.specs.declared.unit.Units.{Units}
+use Rattle.vital_nodes.specs.declared.unit.Arch.{Arch}
+use Rattle.vital_nodes.specs.declared.unit.Entity.{Entity}
+use Rattle.vital_nodes.specs.declared.unit.Units.{Units}
 
 -- The lines of an entity: one for each architecture of it, or one that says that there is none.
 abbrev pub arch_line : List ℕ → Arch → Said

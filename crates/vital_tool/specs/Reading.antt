@@ -5,9 +5,9 @@ use Rattle.vital_tool.specs.Refusals.{IsFileRefusal}
 use Rattle.vital_tool.specs.declared.loading.Source.{Source}
 use Rattle.vital_tool.specs.declared.refusal.Refusal.{Refusal}
 use Rattle.vital_vhdl.specs.Outcomes.{IsReading}
-use Rattle.vital_vhdl.specs.declared.reading.UnitError.{UnitError}
-use Rattle.vital_vhdl.specs.declared.unit.Role.TheVariants as role
-use Rattle.vital_vhdl.specs.declared.unit.Units.{Units}
+use Rattle.vital_vhdl.specs.declared.read.UnitError.{UnitError}
+use Rattle.vital_nodes.specs.declared.unit.Role.TheVariants as role
+use Rattle.vital_nodes.specs.declared.unit.Units.{Units}
 use Rattle.vital_words.specs.declared.key.FileKind.{FileKind}
 use Rattle.vital_words.specs.declared.key.FileKind.TheVariants.{Lib, Stim}
 

@@ -19,8 +19,8 @@ use Rattle.vital_tool.specs.Answer.{Answer, refused}
 use Rattle.vital_tool.specs.declared.refusal.Refusal.{Refusal}
 use Rattle.vital_tool.specs.declared.refusal.Refusal.TheVariants as refusal
 use Rattle.vital_tool.specs.declared.status.Status.TheVariants.{Usage, Syntax, Limit, Library}
-use Rattle.vital_vhdl.specs.declared.reading.UnitError.{UnitError}
-use Rattle.vital_vhdl.specs.declared.reading.UnitError.TheVariants as unit_error
+use Rattle.vital_vhdl.specs.declared.read.UnitError.{UnitError}
+use Rattle.vital_vhdl.specs.declared.read.UnitError.TheVariants as unit_error
 use Rattle.vital_words.specs.declared.job.NamedFile.{NamedFile}
 use Rattle.vital_words.specs.declared.refusal.UsageFault.{UsageFault}
 use Rattle.vital_words.specs.declared.refusal.UsageWhy.{UsageWhy as WordsWhy}

@@ -11,8 +11,8 @@ use Rattle.vital_tool.specs.declared.loading.Source.{Source}
 use Rattle.vital_tool.specs.declared.reading.Unread.{Unread}
 use Rattle.vital_tool.specs.declared.reading.Unread.TheVariants as reading
 use Rattle.vital_tool.specs.declared.refusal.Refusal.{Refusal}
-use Rattle.vital_vhdl.specs.declared.reading.UnitError.{UnitError}
-use Rattle.vital_vhdl.specs.declared.unit.Units.{Units}
+use Rattle.vital_vhdl.specs.declared.read.UnitError.{UnitError}
+use Rattle.vital_nodes.specs.declared.unit.Units.{Units}
 
 -- Files were loaded as defined, unless the shelf failed or memory ran out.
 abbrev pub GivesSources : Result (List Source) NotLoaded → Result (List Source) Answer → Type 0

@@ -1,20 +1,22 @@
 //! Reading the texts of VHDL files.
 
 ghost use Rattle.std.specs.Prelude.{◌≡◌, ◌≤◌, List as List', Result, length, All};
+ghost use Rattle.vital_grammar.specs.Grammar.{grammar};
 ghost use Rattle.vital_tool.specs.Reading.{AreRead};
 ghost use Rattle.vital_tool.specs.Refusals.{offset_of, place_in, printed_lexical, text_refusal};
 ghost use Rattle.vital_tool.specs.Returned.{GivesUnits, GivesFirst};
 ghost use Rattle.vital_tool.specs.declared.reading.Unread.TheVariants.{NoMemory};
 ghost use Rattle.vital_tool.specs.declared.refusal.Refusal.{Refusal as Refusal'};
 ghost use Rattle.vital_vhdl.specs.Outcomes.{IsReading};
-ghost use Rattle.vital_vhdl.specs.declared.reading.UnitError.{UnitError as UnitError'};
-ghost use Rattle.vital_vhdl.specs.declared.unit.Units.{Units as Units'};
+ghost use Rattle.vital_vhdl.specs.declared.read.UnitError.{UnitError as UnitError'};
+ghost use Rattle.vital_nodes.specs.declared.unit.Units.{Units as Units'};
 
 use crate::loading::Source;
 use crate::refusal::Refusal;
 use std::alloc::{AllocFailed, Global};
 use vital_base::{List, Place};
 use vital_lex::{TextFault, Why, line_column};
+use vital_ll::Rules;
 use vital_report::{LexicalWhy, Limit};
 use vital_vhdl::{Role, UnitError, Units, read_units};
 use vital_words::FileKind;
@@ -37,8 +39,10 @@ impl<T: Drop> From<AllocFailed<T>> for Unread {
     }
 }
 
-/// The units of the VHDL files among these, which are numbered from 0; or how the first that is refused is.
-pub fn read_files(alloc: Global, sources: &[Source]) -> Result<List<Units>, Unread>
+/// The units of the VHDL files among these, which are numbered from 0; or how the first that is refused is. One table of the
+/// grammar serves all of them.
+pub fn read_files(alloc: Global, rules: &Rules, sources: &[Source]) -> Result<List<Units>, Unread>
+    requires grammar { rules.now ≡ grammar }
     requires few { length sources.now ≤ 16 }
     requires within { All (λ source. length source.text ≤ 16_777_216) sources.now }
     ensures { (outcome : Result (List' Units') Refusal') → AreRead 0 4_194_304 sources.now outcome → GivesUnits result outcome }
@@ -48,7 +52,7 @@ pub fn read_files(alloc: Global, sources: &[Source]) -> Result<List<Units>, Unre
     for (number, source) in sources.iter().enumerate() {
         match source.kind {
             FileKind::Lib => {
-                let units = read_text(alloc, number as u32, source.text.as_slice(), room)?;
+                let units = read_text(alloc, rules, number as u32, source.text.as_slice(), room)?;
                 room = room.saturating_sub(units.tokens);
                 files.push(units)?;
             }
@@ -59,12 +63,19 @@ pub fn read_files(alloc: Global, sources: &[Source]) -> Result<List<Units>, Unre
 }
 
 /// The units of the file with this number and text, or how it is refused.
-fn read_text(alloc: Global, number: u32, text: &[u8], room: u32) -> Result<Units, Unread>
-    requires { length text.now ≤ 16_777_216 }
+fn read_text(
+    alloc: Global,
+    rules: &Rules,
+    number: u32,
+    text: &[u8],
+    room: u32,
+) -> Result<Units, Unread>
+    requires grammar { rules.now ≡ grammar }
+    requires short { length text.now ≤ 16_777_216 }
     ensures { (first : Result Units' UnitError') → IsReading number Role.Lib text.now room first
         → GivesFirst number text.now result first }
 {
-    match read_units(alloc, number, Role::Lib, text, room) {
+    match read_units(alloc, rules, number, Role::Lib, text, room) {
         Ok(units) => Ok(units),
         Err(UnitError::Lex(fault)) => Err(Unread::Refused(text_refusal(number, text, fault))),
         Err(UnitError::Refused { place }) => Err(Unread::Refused(Refusal::Syntax { place })),

@@ -19,7 +19,7 @@ use std::alloc::Global;
 use vital_base::{List, Shelf, Sink, WriteFault};
 use vital_library::{Library, gather};
 use vital_report::Reporter;
-use vital_vhdl::Units;
+use vital_vhdl::{Units, vhdl_rules};
 use vital_words::{Job, Task};
 
 /// Runs a job: its files are loaded, and then come the other stages.
@@ -63,7 +63,10 @@ fn run_sources<K: Sink>(
         (record { told = K.bytes sink.old; faults = K.faults sink.old })
         (record { told = K.bytes sink.new; faults = K.faults sink.new }) }
 {
-    match read_files(alloc, sources.as_slice()) {
+    let Ok(rules) = vhdl_rules(alloc) else {
+        return Status::NoMemory;
+    };
+    match read_files(alloc, &rules, sources.as_slice()) {
         Ok(units) => run_units(alloc, job, sources, units, report, sink),
         Err(Unread::Refused(refusal)) => {
             refuse_files(alloc, job.files.as_slice(), refusal, report, sink)

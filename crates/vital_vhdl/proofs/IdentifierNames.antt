@@ -1,7 +1,6 @@
--- Each token of a text has a well-formed name.
+-- What each token of a text is named, if it is an identifier, is well formed.
 use Rattle.std.proofs.Common.{◌≡◌, ℕ, Bool, true, not, ◌&&◌, ◌||◌, eqb, cond, List, [], ◌∷◌, map, Option, Some, None, refl, ap, sym, subst, ◌∙◌, inl, inr, arith}
 use Rattle.std.specs.Prelude.{nat_le, slice_range, All, unwrap_or}
-use Rattle.std.specs.Char.{to_ascii_lowercase}
 use Rattle.std.specs.List.{list_all}
 use Rattle.std.specs.Str.{bytes_eq}
 use Rattle.std.proofs.lemmas.Bool.{and_parts, cond_both, leb-true, ne_eqb}
@@ -15,17 +14,11 @@ use Rattle.vital_lex.specs.ReservedWords.{reserved_words}
 use Rattle.vital_lex.specs.declared.kinds.Kind.{Kind}
 use Rattle.vital_lex.specs.declared.kinds.Kind.TheVariants as kind
 use Rattle.vital_lex.specs.declared.token_list.Token.{Token}
-use Rattle.vital_vhdl.specs.IdentifierNames.{IsIdentifierName, HaveNames, name_of, name_in, no_identifier}
-use Rattle.vital_vhdl.specs.Reading.{no_token}
+use Rattle.vital_nodes.specs.IdentifierNames.{IsBasicName, IsIdentifierName, IsNamedWell, name_of}
+use Rattle.vital_shapes.specs.Reading.{no_token}
+use Rattle.vital_vhdl.specs.Cursors.{HasName, HaveNames}
 
 -- ---- lower case
-
-lower_case_is : (b : ℕ) → to_ascii_lowercase b ≡ lower_case b
-lower_case_is b = grind arith
-
-pub map_lower_case : (bytes : List ℕ) → map to_ascii_lowercase bytes ≡ map lower_case bytes
-map_lower_case [] = refl
-map_lower_case (b ∷ bytes) = ap (λ (x : ℕ). x ∷ map to_ascii_lowercase bytes) (lower_case_is b) ∙ ap (λ (xs : List ℕ). lower_case b ∷ xs) (map_lower_case bytes)
 
 lower_case-twice : (b : ℕ) → lower_case (lower_case b) ≡ lower_case b
 lower_case-twice b = grind arith
@@ -85,28 +78,33 @@ kind_in-other (entry ∷ table) bytes others k is =
     let parts = and_parts (is_other entry.1) _ others in
     cond_both (bytes_eq entry.0 bytes) (Some entry.1) (kind_in table bytes) IsOther (λ _. some_other entry.1 parts.0) (λ _. kind_in-other table bytes parts.1) k is
 
-other_name : (bytes : List ℕ) (k : Kind) → is_other k ≡ true → name_of (number k) bytes ≡ no_identifier
+named_other : (bytes : List ℕ) (k : Kind) → is_other k ≡ true → IsNamedWell (number k) bytes
 unfolding name_of
-other_name bytes k other =
+named_other bytes k other name is =
     let above = leb-true 2 (number k) other in
-    rw (ne_eqb (number k) 0 (omega arith), ne_eqb (number k) 1 (omega arith)) refl
-
-named_other : (bytes : List ℕ) (k : Kind) → is_other k ≡ true → IsIdentifierName (name_of (number k) bytes)
-named_other bytes k other = subst IsIdentifierName (sym (other_name bytes k other)) (inr refl)
+    let none : name_of (number k) bytes ≡ None = rw (ne_eqb (number k) 0 (omega arith), ne_eqb (number k) 1 (omega arith)) refl in
+    absurd cc
 
 -- ---- lexemes
 
--- the kind, if there is one, gives the bytes a well-formed name
+-- what the bytes are named by the kind, if there is one, is well formed
 abbrev IsNamed : List ℕ → Option Kind → Type 0
-IsNamed bytes o = (k : Kind) → o ≡ Some k → IsIdentifierName (name_of (number k) bytes)
+IsNamed bytes o = (k : Kind) → o ≡ Some k → IsNamedWell (number k) bytes
+
+well_basic : (bytes : List ℕ) → IsBasicName (map lower_case bytes) → IsNamedWell (number kind.Identifier) bytes
+unfolding name_of
+well_basic bytes basic name is = let same : map lower_case bytes ≡ name = cc in subst IsIdentifierName same (inl basic)
+
+well_extended : (bytes : List ℕ) → is_extended_identifier bytes ≡ true → IsNamedWell (number kind.ExtendedIdentifier) bytes
+unfolding name_of
+well_extended bytes extended name is = let same : bytes ≡ name = cc in subst IsIdentifierName same (inr extended)
 
 named_word : (bytes : List ℕ) → is_basic_identifier bytes ≡ true → (found : Option Kind) → found ≡ kind_in reserved_words (map lower_case bytes)
-    → IsOther found → (k : Kind) → unwrap_or found kind.Identifier ≡ k → IsIdentifierName (name_of (number k) bytes)
-unfolding name_of
+    → IsOther found → (k : Kind) → unwrap_or found kind.Identifier ≡ k → IsNamedWell (number k) bytes
 named_word bytes basic None is others k same =
-    subst (λ (x : Kind). IsIdentifierName (name_of (number x) bytes)) same
-    (inl (record { basic = is_basic_identifier-lower bytes ∙ basic; folded = map-twice bytes; not_reserved = sym is }))
-named_word bytes basic (Some j) is others k same = subst (λ (x : Kind). IsIdentifierName (name_of (number x) bytes)) same (named_other bytes j (others j refl))
+    subst (λ (x : Kind). IsNamedWell (number x) bytes) same
+    (well_basic bytes (record { basic = is_basic_identifier-lower bytes ∙ basic; folded = map-twice bytes; not_reserved = sym is }))
+named_word bytes basic (Some j) is others k same = subst (λ (x : Kind). IsNamedWell (number x) bytes) same (named_other bytes j (others j refl))
 
 named_basic : (bytes : List ℕ) → is_basic_identifier bytes ≡ true → IsNamed bytes (Some (word_kind bytes))
 unfolding word_kind
@@ -116,9 +114,8 @@ named_basic bytes basic k is =
     named_word bytes basic reserved refl (kind_in-other reserved_words (map lower_case bytes) refl) k same
 
 named_extended : (bytes : List ℕ) → is_extended_identifier bytes ≡ true → IsNamed bytes (Some kind.ExtendedIdentifier)
-unfolding name_of
 named_extended bytes extended k is =
-    let same : kind.ExtendedIdentifier ≡ k = cc in subst (λ (x : Kind). IsIdentifierName (name_of (number x) bytes)) same (inr extended)
+    let same : kind.ExtendedIdentifier ≡ k = cc in subst (λ (x : Kind). IsNamedWell (number x) bytes) same (well_extended bytes extended)
 
 named_rest : (bytes : List ℕ) (o : Option Kind) → IsOther o → IsNamed bytes o
 named_rest bytes o others k is = named_other bytes k (others k is)
@@ -140,20 +137,19 @@ named_lexeme before bytes =
 
 -- ---- texts
 
-named_row : {text : List ℕ} {at : ℕ} {lexemes : List Lexeme} → Row text at lexemes → All (λ (l : Lexeme). IsIdentifierName (name_in text (token_of l))) lexemes
-unfolding name_in
-named_row {text} empty = All-nil (λ (l : Lexeme). IsIdentifierName (name_in text (token_of l)))
+named_row : {text : List ℕ} {at : ℕ} {lexemes : List Lexeme} → Row text at lexemes → All (λ (l : Lexeme). HasName text (token_of l)) lexemes
+named_row {text} empty = All-nil (λ (l : Lexeme). HasName text (token_of l))
 named_row (separator row stands) = named_row row
 named_row {text} (lexeme {lexemes = ls} {l = l} row next) =
-    All-push (λ (x : Lexeme). IsIdentifierName (name_in text (token_of x))) ls l (named_row row)
+    All-push (λ (x : Lexeme). HasName text (token_of x)) ls l (named_row row)
     (named_lexeme _ (slice_range text l.start l.end) l.kind next.lexeme.kind_is)
 
 -- the tokens of a text have names
 pub names_of_text : (text : List ℕ) (tokens : List Token) → Lexes text tokens → HaveNames text tokens
 names_of_text text tokens lexed =
-    subst (HaveNames text) (sym lexed.2) (All-map (λ (t : Token). IsIdentifierName (name_in text t)) token_of lexed.0 (named_row lexed.1))
+    subst (HaveNames text) (sym lexed.2) (All-map (λ (t : Token). HasName text t) token_of lexed.0 (named_row lexed.1))
 
--- and so has the token past the end
-pub named_past_end : (text : List ℕ) → IsIdentifierName (name_in text no_token)
-unfolding name_in name_of
-named_past_end text = inr refl
+-- and so has the token past the end, which is no identifier
+pub named_past_end : (text : List ℕ) → HasName text no_token
+unfolding name_of
+named_past_end text name is = let none : None ≡ Some name = is in absurd cc

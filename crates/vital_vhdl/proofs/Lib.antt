@@ -1,4 +1,5 @@
 pub mod IdentifierNames
-pub mod Predictive
 pub mod Turns
+pub mod LastDeclared
 pub mod Answered
+pub mod Standing

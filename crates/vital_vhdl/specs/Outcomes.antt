@@ -1,21 +1,18 @@
 -- What comes of reading a file: its units, or how it is refused.
-use Rattle.std.specs.Prelude.{◌≡◌, ℕ, List, length, map, slice_index_or, Result, Ok, Err}
+use Rattle.std.specs.Prelude.{◌≡◌, ℕ, List, length, map, slice_index_or, Some, Result, Ok, Err}
 use Rattle.vital_ll.specs.declared.derivation.Step.{Step}
 use Rattle.vital_ll.specs.Readings as list
 use Rattle.vital_lex.specs.Outcome.{IsOutcome}
 use Rattle.vital_lex.specs.declared.token_list.Token.{Token}
 use Rattle.vital_base.specs.declared.place.Place.{Place}
-use Rattle.vital_vhdl.specs.declared.unit.Role.{Role}
-use Rattle.vital_vhdl.specs.declared.unit.Units.{Units}
-use Rattle.vital_vhdl.specs.declared.reading.UnitError.{UnitError}
-use Rattle.vital_vhdl.specs.declared.reading.UnitError.TheVariants as error
-use Rattle.vital_vhdl.specs.Grammar.{grammar}
-use Rattle.vital_vhdl.specs.Reading.{place_at}
-use Rattle.vital_vhdl.specs.Shapes.{shape}
-
--- the kinds of tokens, by which the grammar names them
-abbrev pub kinds_of : List Token → List ℕ
-kinds_of tokens = map (λ t. t.kind) tokens
+use Rattle.vital_nodes.specs.declared.unit.Role.{Role}
+use Rattle.vital_nodes.specs.declared.unit.Unit.{Unit as Unit'}
+use Rattle.vital_nodes.specs.declared.unit.Units.{Units}
+use Rattle.vital_vhdl.specs.declared.read.UnitError.{UnitError}
+use Rattle.vital_vhdl.specs.declared.read.UnitError.TheVariants as error
+use Rattle.vital_grammar.specs.Grammar.{grammar}
+use Rattle.vital_shapes.specs.Reading.{kinds_of, place_at}
+use Rattle.vital_shapes.specs.Shapes.{shape}
 
 -- where token k begins; the end of the text counts as the last token
 abbrev pub offset_of : List ℕ → List Token → ℕ → ℕ
@@ -35,7 +32,9 @@ pub record IsUnitsOf (file : ℕ) (role : Role) (text : List ℕ) (room : ℕ) (
   pub lexed : IsOutcome text room (Ok tokens)
   pub tree : List Step
   pub derived : list.IsReading grammar (kinds_of tokens) (Ok tree)
-  pub units_are : read ≡ record { role = role; units = shape file text tokens tree; tokens = length tokens }
+  pub units : List Unit'
+  pub shaped : shape file text tokens tree ≡ Some units
+  pub read_is : read ≡ record { role = role; units = units; tokens = length tokens }
 
 -- what comes of a file
 abbrev pub IsReading : ℕ → Role → List ℕ → ℕ → Result Units UnitError → Type 0

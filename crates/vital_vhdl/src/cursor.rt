@@ -1,18 +1,19 @@
 //! A cursor over the derivation and the tokens of a file.
 
-ghost use Rattle.std.specs.Prelude.{◌≡◌, ◌≤◌, length, slice_range, IfOk};
-ghost use Rattle.vital_vhdl.specs.IdentifierNames.{HaveNames, IsIdentifierName, name_in};
-ghost use Rattle.vital_vhdl.specs.Reading as spec;
-ghost use Rattle.vital_vhdl.specs.Reading.{Reads, next_token};
+ghost use Rattle.std.specs.Prelude.{◌≡◌, ◌≤◌, length, slice_range, Some};
+ghost use Rattle.vital_nodes.specs.IdentifierNames.{IsNamedWell};
+ghost use Rattle.vital_shapes.specs.Reading as spec;
+ghost use Rattle.vital_shapes.specs.Reading.{next_token};
+ghost use Rattle.vital_vhdl.specs.Cursors.{HaveNames, HasName};
+ghost use Rattle.vital_vhdl.specs.Reads.{Reads};
 
-use crate::expr::Identifier;
-use crate::identifier_name::IdentifierName;
-use crate::spot::Spot;
-use std::alloc::{AllocError, Global};
+use crate::shape_error::ShapeError;
+use std::alloc::Global;
 use std::marker::Model;
 use vital_base::Place;
-use vital_lex::Token;
+use vital_lex::{TextPosition, Token};
 use vital_ll::Step;
+use vital_nodes::{Identifier, IdentifierName};
 
 /// What is left to read of a file: contracts see the steps and the tokens from the next ones on, and the text and the number
 /// of the file.
@@ -22,12 +23,12 @@ pub(crate) struct Cursor<'a> {
     tokens: &'a [Token],
     text: &'a [u8],
     file: u32,
-    /// The spot whose place was asked for last.
-    spot: Spot,
+    /// The position of the place that was asked for last.
+    position: TextPosition,
 }
 
 impl<'a> Model for Cursor<'a> {
-    ghost use Rattle.vital_vhdl.specs.Reading.{Input};
+    ghost use Rattle.vital_shapes.specs.Reading.{Input};
 
     ghost Value = { Input };
 
@@ -58,12 +59,12 @@ impl<'a> Cursor<'a> {
             tokens,
             text,
             file,
-            spot: Spot::start(text),
+            position: TextPosition::start(text),
         }
     }
 
     /// How many steps are left.
-    #[tactic(auto, unfolding(crate::specs::Reading::left))]
+    #[tactic(auto, unfolding(vital_shapes::specs::Reading::left))]
     pub(crate) fn left(&self) -> usize
         ensures { result ≡ spec.left self.now }
     {
@@ -71,9 +72,9 @@ impl<'a> Cursor<'a> {
     }
 
     /// Takes a step, and says which alternative it chose.
-    #[tactic(auto, unfolding(crate::specs::Reading::alternative, crate::specs::Reading::past_step))]
+    #[tactic(auto, unfolding(vital_shapes::specs::Reading::alternative, vital_shapes::specs::Reading::past_step))]
     pub(crate) fn choice(&mut self) -> u16
-        ensures { spec.choice self.old ≡ (result, self.new) }
+        ensures { spec.choice self.old ≡ Some (result, self.new) }
     {
         match self.steps {
             [] => 0,
@@ -85,9 +86,9 @@ impl<'a> Cursor<'a> {
     }
 
     /// Passes over a token.
-    #[tactic(auto, unfolding(crate::specs::Reading::past_token))]
+    #[tactic(auto, unfolding(vital_shapes::specs::Reading::past_token))]
     pub(crate) fn skip(&mut self)
-        ensures { spec.skip self.old ≡ (tt, self.new) }
+        ensures { spec.skip self.old ≡ Some (tt, self.new) }
     {
         if let [_, rest @ ..] = self.tokens {
             self.tokens = rest;
@@ -95,10 +96,10 @@ impl<'a> Cursor<'a> {
     }
 
     /// The next token.
-    #[tactic(auto, using(crate::proofs::IdentifierNames::named_past_end), unfolding(crate::specs::Reading::next_token))]
+    #[tactic(auto, using(crate::proofs::IdentifierNames::named_past_end), unfolding(vital_shapes::specs::Reading::next_token))]
     fn token(&self) -> Token
         ensures next { result ≡ next_token self.now }
-        ensures named { IsIdentifierName (name_in self.now.text result) }
+        ensures named { HasName self.now.text result }
     {
         match self.tokens {
             [] => Token {
@@ -111,16 +112,18 @@ impl<'a> Cursor<'a> {
     }
 
     /// The place of the next token.
-    #[tactic(auto, unfolding(crate::specs::Reading::next_place, crate::specs::Reading::place_at))]
+    #[tactic(auto, unfolding(vital_shapes::specs::Reading::next_place, vital_shapes::specs::Reading::place_at))]
     pub(crate) fn place(&mut self) -> Place
-        ensures { spec.place self.old ≡ (result, self.new) }
+        ensures { spec.place self.old ≡ Some (result, self.new) }
     {
         let offset = self.token().start;
-        self.spot = self.spot.seek(self.text, offset);
+        if self.position.offset != offset as usize {
+            self.position = self.position.seek(self.text, offset);
+        }
         Place {
             file: self.file,
-            line: self.spot.line,
-            column: self.spot.column,
+            line: self.position.line,
+            column: self.position.column,
         }
     }
 
@@ -134,33 +137,37 @@ impl<'a> Cursor<'a> {
     }
 
     /// Takes a token for its bytes.
-    #[tactic(auto, unfolding(crate::specs::Reading::next_spelling, crate::specs::Reading::past_token))]
+    #[tactic(auto, unfolding(vital_shapes::specs::Reading::next_spelling, vital_shapes::specs::Reading::past_token))]
     pub(crate) fn spelling(&mut self) -> &'a [u8]
-        ensures { spec.spelling self.old ≡ (result.now, self.new) }
+        ensures { spec.spelling self.old ≡ Some (result.now, self.new) }
     {
         let bytes = self.bytes_of(self.token());
         self.skip();
         bytes
     }
 
-    /// The name of the next token.
-    #[tactic(auto, unfolding(crate::specs::IdentifierNames::name_in))]
-    fn name(&self, alloc: Global) -> Result<IdentifierName, AllocError>
-        ensures { IfOk result (λ name. name ≡ name_in self.now.text (next_token self.now)) }
+    /// Takes an identifier for its name.
+    #[tactic(auto, unfolding(vital_shapes::specs::Reading::next_name, vital_shapes::specs::Reading::next_spelling))]
+    fn name(&mut self, alloc: Global) -> Result<IdentifierName, ShapeError>
+        ensures { Reads (spec.name_of_next self.old) result self.new }
     {
         let token = self.token();
-        IdentifierName::of_token(alloc, token.kind, self.bytes_of(token))
+        let name = IdentifierName::of_token(alloc, token.kind, self.bytes_of(token))?;
+        self.skip();
+        match name {
+            Some(name) => Ok(name),
+            None => Err(ShapeError::NoIdentifier),
+        }
     }
 
     /// Takes an identifier.
-    #[tactic(auto, unfolding(crate::specs::Reading::identifier))]
-    pub(crate) fn identifier(&mut self, alloc: Global) -> Result<Identifier, AllocError>
+    #[tactic(auto, unfolding(vital_shapes::specs::Reading::identifier))]
+    pub(crate) fn identifier(&mut self, alloc: Global) -> Result<Identifier, ShapeError>
         ensures { Reads (spec.identifier self.old) result self.new }
     {
         self.choice();
         let place = self.place();
         let name = self.name(alloc)?;
-        self.skip();
         Ok(Identifier { place, name })
     }
 }

@@ -1,6 +1,6 @@
 use Rattle.std.proofs.Common.{◌≡◌, take, map}
 use Rattle.std.specs.List.{list_any}
-use Rattle.vital_vhdl.specs.declared.unit.Unit.{Unit as Unit'}
+use Rattle.vital_nodes.specs.declared.unit.Unit.{Unit as Unit'}
 use Rattle.vital_library.specs.Faults.{duplicate, duplicates, least_of, shares_name}
 use Rattle.vital_library.specs.Names.{is_declared}
 use Rattle.vital_library.specs.Positions.{units_in}

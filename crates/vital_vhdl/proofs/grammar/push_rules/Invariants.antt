@@ -1,6 +1,0 @@
-use Rattle.std.proofs.Common.{◌≡◌, ◌++◌, take}
-use Rattle.vital_vhdl.specs.Rows.{rules_in}
-use Rattle.vital_vhdl.proofs.grammar.push_rules.Given as goal
-
-abbrev pub invariant-loop-row : goal.invariant-loop-row
-invariant-loop-row l = l.rules.items ≡ l.fn.rules.items ++ rules_in (take l.row-index l.rows)
