@@ -1,0 +1,13 @@
+use Rattle.std.proofs.Common.{◌≡◌, ◌++◌, [], length, map, reverse}
+use Rattle.vital_nodes.specs.Walk.{nodes_of_all, nodes_of_unit}
+use Rattle.vital_walk.specs.Seen.{seen}
+use Rattle.vital_walk.proofs.walk.nodes.Given as goal
+
+abbrev pub invariant-loop-node : goal.invariant-loop-node
+invariant-loop-node l = record {
+  nodes : map seen l.nodes.items ++ nodes_of_all (reverse (map seen l.waiting.items)) ≡ nodes_of_unit l.unit;
+  parts : l.parts.items ≡ [];
+}
+
+abbrev pub decreases-loop-node : goal.decreases-loop-node
+decreases-loop-node l = length (nodes_of_all (reverse (map seen l.waiting.items)))

@@ -1,0 +1,5 @@
+pub mod Seen
+pub mod Names
+pub mod Bounds
+pub mod Items
+pub mod Calls

@@ -1,0 +1,20 @@
+//! Calls of procedures among concurrent statements.
+
+ghost use Rattle.std.specs.Prelude.{◌≡◌};
+ghost use Rattle.std.specs.Option.{option_copied};
+ghost use Rattle.vital_walk.specs.Calls as spec;
+
+use vital_nodes::{Conc, Reference};
+
+/// The name of the call that a concurrent statement is: one without a label, or one with a label and without maps, which
+/// in a cell is a call and in a netlist an instance.
+pub fn call(conc: &Conc) -> Option<&Reference>
+    ensures { option_copied result ≡ spec.call conc.now }
+{
+    match conc {
+        Conc::Call(_, name) => Some(name),
+        Conc::Instance(_, instance) if instance.generics.is_empty() && instance.ports.is_empty() =>
+            { Some(&instance.unit) }
+        _ => None,
+    }
+}

@@ -1,0 +1,41 @@
+//! All nodes of a unit.
+
+ghost use Rattle.std.specs.Prelude.{◌≡◌, [], ◌++◌, map, reverse, IfOk, OnOk};
+ghost use Rattle.vital_nodes.specs.Walk.{nodes_of_unit};
+ghost use Rattle.vital_walk.specs.Seen.{seen};
+
+use crate::node::Node;
+use crate::unit_parts::{put_parts, put_parts_of_unit};
+use std::alloc::{AllocError, Global};
+use vital_nodes::{Unit, walked_in_preorder};
+
+/// Moves the nodes of one list to the end of another, the last of them first.
+fn put_reversed<'a>(to: &mut Vec<Node<'a>>, from: &mut Vec<Node<'a>>) -> Result<(), AllocError>
+    ensures put { OnOk result (to.new.items ≡ to.old.items ++ reverse from.old.items) }
+    ensures emptied { OnOk result (from.new.items ≡ []) }
+{
+    while let Some(node) = from.pop() {
+        to.push(node)?;
+    }
+    Ok(())
+}
+
+/// All nodes of a unit in preorder: a node stands before what it holds, and what it holds in the order of the text. What
+/// identifiers that are declared together share is there once, behind the last of them.
+pub fn nodes<'a>(alloc: Global, unit: &'a Unit) -> Result<Vec<Node<'a>>, AllocError>
+    ensures { IfOk result (λ nodes. map seen nodes.items ≡ nodes_of_unit unit.now) }
+{
+    walked_in_preorder();
+    let mut parts = Vec::new(alloc);
+    put_parts_of_unit(&mut parts, unit)?;
+    // Those that are still to come, the next one last.
+    let mut waiting = Vec::new(alloc);
+    put_reversed(&mut waiting, &mut parts)?;
+    let mut nodes = Vec::new(alloc);
+    while let Some(node) = waiting.pop() {
+        nodes.push(node)?;
+        put_parts(&mut parts, node)?;
+        put_reversed(&mut waiting, &mut parts)?;
+    }
+    Ok(nodes)
+}
