@@ -1,13 +1,14 @@
 -- What is kept of files tells their entities and architectures.
 use Rattle.std.proofs.Common.{◌≡◌, ℕ, zero, suc, ◌<◌, ◌≤◌, true, false, List, [], ◌∷◌, map, length, get_or, refl, sym, ◌∙◌, ap, arith}
 use Rattle.std.specs.Prelude.{Bool, cond, Option, Some, None, filter, Result, Ok, Err}
-use Rattle.std.specs.List.{filter_map, cons_option, AllByRecursion, slice_get}
+use Rattle.std.specs.List.{filter_map, cons_option, AllByRecursion, slice_get, position_from}
 use Rattle.std.specs.Option.{option_map, option_map_or, option_and_then}
 use Rattle.std.specs.Str.{bytes_eq}
 use Rattle.std.proofs.lemmas.List.{length-map}
 use Rattle.std.proofs.lemmas.Option.{slice_get_past, slice_get-map, slice_get-get_or}
 use Rattle.std.proofs.lemmas.List.Sums.{length-filter, count_by-le-length}
 use Rattle.std.proofs.lemmas.Simd.{map-map}
+use Rattle.std.proofs.lemmas.Iterator.Adapters.{position_from-zero}
 use Rattle.vital_base.specs.declared.place.Place.{Place}
 use Rattle.vital_nodes.specs.declared.unit.Arch.{Arch}
 use Rattle.vital_nodes.specs.declared.unit.Entity.{Entity}
@@ -27,10 +28,13 @@ use Rattle.vital_library.specs.Faults.{faults, least_of}
 use Rattle.vital_library.specs.Gathered.{refusal, judged, limited, gathered, GivesLibrary}
 use Rattle.vital_library.specs.Kept.{IsLibrary}
 use Rattle.vital_library.specs.Limits.{IsPastLimit}
-use Rattle.vital_library.specs.Positions.{unit_at, entity_at, arch_at, seen, numbered}
-use Rattle.vital_library.specs.Units.{units_of, place_of, as_entity, as_arch, entities_among, archs_among, entities, archs_of, archs_of_entity}
+use Rattle.vital_library.specs.Numbers.{is_named, number_named, number_of}
+use Rattle.vital_library.specs.Positions.{unit_at, entity_at, arch_at, role_at, seen, numbered, units_in}
+use Rattle.vital_library.specs.Units.{units_of, place_of, as_entity, as_arch, entities_among, archs_among, entities, archs_of, archs_of_entity, roles}
+use Rattle.vital_library.proofs.NumberLemmas.{Numbers}
+use Rattle.vital_library.proofs.RoleLemmas.{roles-stand}
 use Rattle.vital_library.proofs.EntryLemmas.{map-same}
-use Rattle.vital_library.proofs.NumberedLemmas.{Stands, stand, numbered-units}
+use Rattle.vital_library.proofs.NumberedLemmas.{Stands, stand, numbered-units, seen-units}
 
 abbrev Placed : Type 0
 Placed = List (Position × Unit')
@@ -133,15 +137,35 @@ kept-archs files us entries stood e =
     ∙ sym (map-map (λ entity. archs-named entity.identifier.name (units-in us)) (λ u. u.1) (entities_with_positions us))
     ∙ ap (map (λ entity. archs-named entity.identifier.name (units-in us))) (entities-alone us)
 
-pub kept : (files : List Units) (units : List UnitAt) (entries : List Entry) → gathered files ≡ Ok files → map seen units ≡ numbered files → map shown entries ≡ entries_among (map seen units) → IsLibrary entries files
-kept files units entries sound at e =
+kept-roles : (files : List Units) (entries : List Entry) → map shown entries ≡ entries_among (numbered files) → map (λ entry. role_at files entry.position) entries ≡ map (λ role. Some role) (roles files)
+kept-roles files entries e =
+    sym (map-map (λ p. role_at files p.0) shown entries)
+    ∙ ap (map (λ p. role_at files p.0)) e
+    ∙ map-map (λ p. role_at files p.0) (λ u. (u.0, positions_of_archs u.1.identifier.name (numbered files))) (entities_with_positions (numbered files))
+    ∙ roles-stand files
+
+kept-numbers : (files : List Units) (units : List UnitAt) (numbers : Numbers) → map seen units ≡ numbered files → ((name : List ℕ) → number_of numbers name ≡ position_from (is_named name) 0 (entities_among (units_in units))) → (name : List ℕ) → number_of numbers name ≡ number_named name files
+kept-numbers files units numbers at same name =
+    same name
+    ∙ ap (λ us. position_from (is_named name) 0 (entities_among us)) (seen-units units files at)
+    ∙ sym (position_from-zero (is_named name) (entities files))
+
+pub kept : (files : List Units) (units : List UnitAt) (entries : List Entry) (numbers : Numbers) → gathered files ≡ Ok files → map seen units ≡ numbered files → map shown entries ≡ entries_among (map seen units) → ((name : List ℕ) → number_of numbers name ≡ position_from (is_named name) 0 (entities_among (units_in units))) → IsLibrary entries numbers files
+kept files units entries numbers sound at e same =
     let us = numbered files in
     let e' : map shown entries ≡ entries_among us = e ∙ ap entries_among at in
     record {
       sound = sound;
       entities_there = kept-entities files us entries (stand files) e' ∙ ap (λ vs. map (λ entity. Some entity) (entities_among vs)) (numbered-units files);
+      roles_there = kept-roles files entries e';
+      numbers_there = kept-numbers files units numbers at same;
       archs_there = kept-archs files us entries (stand files) e' ∙ ap (λ vs. map (λ entity. archs-named entity.identifier.name vs) (entities_among vs)) (numbered-units files);
     }
+
+pub few-seen : (files : List Units) (units : List UnitAt) → map seen units ≡ numbered files → length (units_of files) ≤ 4096 → length units ≤ 4096
+few-seen files units at few =
+    let same : length (units_in units) ≡ length (units_of files) = ap length (seen-units units files at) in
+    omega (arith, few, same, length-map units (λ unit. unit.unit.now))
 
 -- ---- what an entry tells
 pub get-none : {A : Type 0} (xs : List A) (k : ℕ) → slice_get xs k ≡ None → k < length xs → ⊥
@@ -166,9 +190,12 @@ at-map f xs ys k x e within is =
 same-count : {A B C : Type 0} (f : A → C) (g : B → C) (xs : List A) (ys : List B) → map f xs ≡ map g ys → length xs ≡ length ys
 same-count f g xs ys e = sym (length-map xs f) ∙ ap length e ∙ length-map ys g
 
-module _ (entries : List Entry) (files : List Units) (lib : IsLibrary entries files) where
+module _ {numbers : Numbers} (entries : List Entry) (files : List Units) (lib : IsLibrary entries numbers files) where
   pub entry-count : length entries ≡ length (entities files)
   entry-count = same-count (λ entry. entity_at files entry.position) (λ entity. Some entity) entries (entities files) lib.entities_there
+
+  pub role-count : length (roles files) ≡ length (entities files)
+  role-count = sym (same-count (λ entry. role_at files entry.position) (λ role. Some role) entries (roles files) lib.roles_there) ∙ entry-count
 
   module _ (k : ℕ) (entry : Entry) (there : k < length (entities files)) (is : entry ≡ get_or entries k entry) where
     within : k < length entries
@@ -176,6 +203,9 @@ module _ (entries : List Entry) (files : List Units) (lib : IsLibrary entries fi
 
     pub entity-found : entity_at files entry.position ≡ slice_get (entities files) k
     entity-found = at-map (λ e. entity_at files e.position) entries (entities files) k entry lib.entities_there within is
+
+    pub role-found : role_at files entry.position ≡ slice_get (roles files) k
+    role-found = at-map (λ e. role_at files e.position) entries (roles files) k entry lib.roles_there within is
 
     of-entity : (o : Option Entity) → Some (map (arch_at files) entry.archs.items) ≡ option_map (λ e. map (λ arch. Some arch) (archs_of e.identifier.name files)) o → map (arch_at files) entry.archs.items ≡ map (λ arch. Some arch) (option_map_or (λ e. archs_of e.identifier.name files) o [])
     of-entity None h = absurd (cc)

@@ -73,7 +73,7 @@ seen-units units files e = sym (map-map (λ u. u.1) seen units) ∙ ap (map (λ 
 abbrev pub Stands : List Units → Position × Unit' → Type 0
 Stands files u = unit_at files u.0 ≡ Some u.1
 
-get-here : {A : Type 0} (before : List A) (x : A) (after : List A) → slice_get (before ++ x ∷ after) (length before) ≡ Some x
+pub get-here : {A : Type 0} (before : List A) (x : A) (after : List A) → slice_get (before ++ x ∷ after) (length before) ≡ Some x
 get-here [] x after = refl
 get-here (y ∷ before) x after = get-here before x after
 
@@ -81,7 +81,7 @@ all-append : {A : Type 0} (P : A → Type 0) (xs ys : List A) → AllByRecursion
 all-append P [] ys h k = k
 all-append P (x ∷ xs) ys h k = (h.0, all-append P xs ys h.1 k)
 
-longer : {A : Type 0} (before : List A) (x : A) (n : ℕ) → n ≡ length before → n + 1 ≡ length (before ++ x ∷ [])
+pub longer : {A : Type 0} (before : List A) (x : A) (n : ℕ) → n ≡ length before → n + 1 ≡ length (before ++ x ∷ [])
 longer before x n here = omega (arith, here, length_push before x)
 
 stand-file : (files : List Units) (number : ℕ) (f : Units) → slice_get files number ≡ Some f → (before units : List Unit') (n : ℕ) → n ≡ length before → f.units ≡ before ++ units → AllByRecursion (Stands files) (numbered_from number n units)

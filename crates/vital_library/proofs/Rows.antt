@@ -1,16 +1,17 @@
 -- The definitions on worked rows.
 use Rattle.std.proofs.Common.{◌≡◌, ℕ, ◌+◌, List, [], ◌∷◌, refl}
-use Rattle.std.specs.Prelude.{codes, Result, Ok, Err}
+use Rattle.std.specs.Prelude.{codes, Some, None, Result, Ok, Err}
 use Rattle.vital_base.specs.declared.place.Place.{Place}
 use Rattle.vital_nodes.specs.declared.identifier.Identifier.{Identifier}
-use Rattle.vital_nodes.specs.declared.unit.Role.TheVariants.{Lib}
+use Rattle.vital_nodes.specs.declared.unit.Role.TheVariants.{Lib, Net}
 use Rattle.vital_nodes.specs.declared.unit.Unit.{Unit as Unit'}
 use Rattle.vital_nodes.specs.declared.unit.Unit.TheVariants as unit
 use Rattle.vital_nodes.specs.declared.unit.Units.{Units}
 use Rattle.vital_library.specs.declared.error.LibraryError.{LibraryError}
 use Rattle.vital_library.specs.declared.error.LibraryError.TheVariants as error
 use Rattle.vital_library.specs.Gathered.{gathered}
-use Rattle.vital_library.specs.Units.{archs_of, archs_of_entity, entities}
+use Rattle.vital_library.specs.Numbers.{number_named}
+use Rattle.vital_library.specs.Units.{archs_of, archs_of_entity, entities, roles}
 
 abbrev at : ℕ → Place
 at column = record { file = 0; line = 1; column = column }
@@ -33,6 +34,9 @@ arch column name of_what = unit.Arch (record { place = at column; identifier = n
 
 abbrev file : List Unit' → Units
 file units = record { role = Lib; units = units; tokens = 0 }
+
+abbrev netlist : List Unit' → Units
+netlist units = record { role = Net; units = units; tokens = 0 }
 
 abbrev one : List Unit' → Result (List Units) LibraryError
 one units = gathered (file units ∷ [])
@@ -78,6 +82,17 @@ entities_in_order : entities two_files ≡
     ∷ record { place = at 40; identifier = named 41 (codes "e"); generics = []; ports = []; declarations = []; statements = [] }
     ∷ []
 entities_in_order = refl
+
+-- one library file with an entity, and one netlist file with two
+roles_in_order : roles (file (entity 10 (codes "d") ∷ pack 20 (codes "p") ∷ []) ∷ netlist (entity 30 (codes "e") ∷ entity 40 (codes "f") ∷ []) ∷ []) ≡ Lib ∷ Net ∷ Net ∷ []
+roles_in_order = refl
+
+number_by_name : number_named (codes "e") two_files ≡ Some 1
+number_by_name = refl
+
+-- a package and architectures have this name, and no entity
+no_number : number_named (codes "x") two_files ≡ None
+no_number = refl
 
 archs_in_order : archs_of (codes "e") two_files ≡
     record { place = at 10; identifier = named 11 (codes "x"); entity = named 12 (codes "e"); declarations = []; statements = [] }

@@ -5,4 +5,6 @@ pub mod Limits
 pub mod Positions
 pub mod Names
 pub mod Entries
+pub mod Numbers
+pub mod Constants
 pub mod Kept

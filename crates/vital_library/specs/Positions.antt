@@ -1,9 +1,10 @@
 -- Where units stand among the files of a library.
 use Rattle.std.specs.Prelude.{ℕ, List, Option, map}
 use Rattle.std.specs.List.{slice_get, enumerate_from, flat_map}
-use Rattle.std.specs.Option.{option_and_then}
+use Rattle.std.specs.Option.{option_and_then, option_map}
 use Rattle.vital_nodes.specs.declared.unit.Arch.{Arch}
 use Rattle.vital_nodes.specs.declared.unit.Entity.{Entity}
+use Rattle.vital_nodes.specs.declared.unit.Role.{Role}
 use Rattle.vital_nodes.specs.declared.unit.Unit.{Unit as Unit'}
 use Rattle.vital_nodes.specs.declared.unit.Units.{Units}
 use Rattle.vital_library.specs.declared.position.Position.{Position}
@@ -19,6 +20,10 @@ entity_at files position = option_and_then as_entity (unit_at files position)
 
 abbrev pub arch_at : List Units → Position → Option Arch
 arch_at files position = option_and_then as_arch (unit_at files position)
+
+-- The role of the file of a position.
+abbrev pub role_at : List Units → Position → Option Role
+role_at files position = option_map (λ file. file.role) (slice_get files position.file)
 
 -- The units of the file with a number, each with its position, from a number on.
 abbrev pub numbered_from : ℕ → ℕ → List Unit' → List (Position × Unit')

@@ -1,5 +1,5 @@
 -- The units of a library, which is a list of files.
-use Rattle.std.specs.Prelude.{ℕ, List, [], Option, Some, None, filter}
+use Rattle.std.specs.Prelude.{ℕ, List, [], Option, Some, None, filter, map}
 use Rattle.std.specs.List.{flat_map, filter_map, slice_get}
 use Rattle.std.specs.Option.{option_map_or}
 use Rattle.std.specs.Str.{bytes_eq}
@@ -7,6 +7,7 @@ use Rattle.vital_base.specs.declared.place.Place.{Place}
 use Rattle.vital_nodes.specs.declared.identifier.Identifier.{Identifier}
 use Rattle.vital_nodes.specs.declared.unit.Arch.{Arch}
 use Rattle.vital_nodes.specs.declared.unit.Entity.{Entity}
+use Rattle.vital_nodes.specs.declared.unit.Role.{Role}
 use Rattle.vital_nodes.specs.declared.unit.Unit.{Unit as Unit'}
 use Rattle.vital_nodes.specs.declared.unit.Unit.TheVariants as unit
 use Rattle.vital_nodes.specs.declared.unit.Units.{Units}
@@ -51,6 +52,10 @@ archs_among units = filter_map as_arch units
 -- The entities of a library, in order.
 abbrev pub entities : List Units → List Entity
 entities files = entities_among (units_of files)
+
+-- The roles of the entities of a library, in order: each has that of its file.
+abbrev pub roles : List Units → List Role
+roles files = flat_map (λ file. map (λ _. file.role) (entities_among file.units)) files
 
 -- The architectures of the entity of a name, in order.
 abbrev pub archs_of : List ℕ → List Units → List Arch

@@ -2,17 +2,16 @@
 #![tactic(auto)]
 
 mod checking;
+mod constants;
 mod entry;
 mod error;
 mod fault;
 mod faults;
 mod library;
 mod names;
+mod numbers;
 mod position;
 mod unit_at;
 
 pub use error::{LibraryError, MOST_UNITS};
 pub use library::{Library, gather};
-
-#[cfg(test)]
-mod tests;

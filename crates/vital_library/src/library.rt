@@ -1,17 +1,21 @@
 //! Libraries.
 
-ghost use Rattle.std.specs.Prelude.{◌≡◌, ◌<◌, length, Ok, Some, IfOk};
+ghost use Rattle.std.specs.Prelude.{◌≡◌, ◌<◌, length, Ok, Some, IfOk, IfSome};
 ghost use Rattle.std.specs.List.{slice_get};
+ghost use Rattle.vital_library.specs.Constants.{constant_number, constants_of, lent};
 ghost use Rattle.vital_library.specs.Gathered.{GivesLibrary, gathered};
-ghost use Rattle.vital_library.specs.Units.{archs_of_entity, entities};
+ghost use Rattle.vital_library.specs.Numbers.{number_named};
+ghost use Rattle.vital_library.specs.Units.{archs_of_entity, entities, roles};
 
-use crate::checking::entries_of;
+use crate::checking::{Index, index_of};
+use crate::constants::{constant_numbers, constants_of};
 use crate::entry::Entry;
 use crate::error::LibraryError;
-use std::alloc::Global;
+use std::alloc::{AllocError, Global};
+use std::collections::HashMap;
 use std::marker::Model;
 use vital_base::List;
-use vital_nodes::{Arch, Entity, Units};
+use vital_nodes::{Arch, Entity, Object, Role, Units};
 
 /// The units of several files as one library, in the order of the files and in each file in its order. Contracts see a library
 /// as its files. They have no fault, so the entities have different names, and so do the architectures of an entity.
@@ -20,10 +24,14 @@ pub struct Library {
     files: List<Units>,
     /// One for each entity, in order.
     entries: Vec<Entry>,
+    /// The numbers of the entities by copies of their names.
+    numbers: HashMap<Vec<u8>, usize>,
+    /// The numbers of the constants of packages by copies of their names.
+    constants: HashMap<Vec<u8>, usize>,
 }
 
 impl Model for Library {
-    ghost use Rattle.vital_library.specs.Kept.{IsLibrary};
+    ghost use Rattle.vital_library.specs.Kept.{HasConstants, IsLibrary};
     ghost use Rattle.vital_nodes.specs.declared.unit.Units.{Units};
     ghost use Rattle.std.specs.Prelude.{List};
     ghost use Rattle.vital_nodes.specs.contracts.unit.Units as units;
@@ -35,7 +43,7 @@ impl Model for Library {
 
     ghost view = { λ l. l.files };
 
-    ghost invariant = { λ l. IsLibrary l.entries.items l.files };
+    ghost invariant = { λ l. IsLibrary l.entries.items l.numbers l.files × HasConstants l.constants l.files };
 }
 
 /// The library of these files. They are refused at the first unit past [`MOST_UNITS`](crate::MOST_UNITS); or else where the
@@ -44,8 +52,14 @@ pub fn gather(alloc: Global, files: List<Units>) -> Result<Library, LibraryError
     ensures files { IfOk result (λ library. library ≡ files) }
     ensures outcome { GivesLibrary result (gathered files) }
 {
-    let entries = entries_of(alloc, files.as_slice())?;
-    Ok(Library { files, entries })
+    let Index { entries, numbers } = index_of(alloc, files.as_slice())?;
+    let constants = constant_numbers(alloc, files.as_slice())?;
+    Ok(Library {
+        files,
+        entries,
+        numbers,
+        constants,
+    })
 }
 
 impl Library {
@@ -55,6 +69,21 @@ impl Library {
         ensures sound { gathered self.now ≡ Ok self.now }
     {
         self.files.as_slice()
+    }
+
+    /// The constants of all packages, in order.
+    pub fn constants(&self, alloc: Global) -> Result<Vec<&Object>, AllocError>
+        ensures { IfOk result (λ constants. lent constants.items ≡ constants_of self.now) }
+    {
+        constants_of(alloc, self.files.as_slice())
+    }
+
+    /// The number of the constant of a name among those of packages, counted from 0, if there is one: the first of a name is
+    /// meant. Names are looked up in a map.
+    pub fn constant_named(&self, name: &[u8]) -> Option<usize>
+        ensures { result ≡ constant_number name.now self.now }
+    {
+        self.constants.get(name).copied()
     }
 
     /// How many entities there are.
@@ -72,6 +101,29 @@ impl Library {
         let entry = &self.entries[entity as usize];
         match entry.position.entity_in(self.files.as_slice()) {
             Some(entity) => entity,
+            None => unreachable!(),
+        }
+    }
+
+    /// The number of the entity of a name, if there is one. Names are as identifiers keep them, and are looked up in a map.
+    pub fn entity_named(&self, name: &[u8]) -> Option<u32>
+        ensures number { result ≡ number_named name.now self.now }
+        ensures there { IfSome result (λ entity. entity < length (entities self.now)) }
+    {
+        match self.numbers.get(name) {
+            Some(number) => Some(*number as u32),
+            None => None,
+        }
+    }
+
+    /// What the entity of a number is: a cell of a library file, or a unit of a netlist file.
+    pub fn role(&self, entity: u32) -> Role
+        requires { entity < length (entities self.now) }
+        ensures { slice_get (roles self.now) entity ≡ Some result }
+    {
+        let entry = &self.entries[entity as usize];
+        match entry.position.role_in(self.files.as_slice()) {
+            Some(role) => role,
             None => unreachable!(),
         }
     }

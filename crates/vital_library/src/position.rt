@@ -2,9 +2,9 @@
 
 ghost use Rattle.std.specs.Prelude.{◌≡◌};
 ghost use Rattle.std.specs.Option.{option_copied};
-ghost use Rattle.vital_library.specs.Positions.{arch_at, entity_at, unit_at};
+ghost use Rattle.vital_library.specs.Positions.{arch_at, entity_at, role_at, unit_at};
 
-use vital_nodes::{Arch, Entity, Unit, Units};
+use vital_nodes::{Arch, Entity, Role, Unit, Units};
 
 /// Where a unit stands: the number of its file, and its own in that file, each from 0.
 #[derive(Clone, Copy, Debug, PartialEq, Eq)]
@@ -33,6 +33,13 @@ impl Position {
             Some(Unit::Entity(entity)) => Some(entity),
             _ => None,
         }
+    }
+
+    /// What the entities of the file are.
+    pub fn role_in(self, files: &[Units]) -> Option<Role>
+        ensures { result ≡ role_at files.now self }
+    {
+        Some(files.get(self.file)?.role)
     }
 
     /// The architecture there.

@@ -7,14 +7,14 @@ pub overflow_cast-result : goal.overflow_cast-result
 overflow_cast-result c =
     let inside = c.self.inside in
     let there = subst (λ files. c.args.entity < length (entities files)) (sym c.self.view_is) c.requires in
-    let count = archs-count inside.entries.items inside.files c.self.invariant c.args.entity c.index.result.now there c.index.ensures in
-    omega (arith, count, few-archs inside.files c.args.entity c.self.invariant.sound)
+    let count = archs-count inside.entries.items inside.files c.self.invariant.0 c.args.entity c.index.result.now there c.index.ensures in
+    omega (arith, count, few-archs inside.files c.args.entity c.self.invariant.0.sound)
 
 pub returns : goal.returns
 returns c =
     let inside = c.self.inside in
     let there = subst (λ files. c.args.entity < length (entities files)) (sym c.self.view_is) c.requires in
     let count =
-    archs-count inside.entries.items inside.files c.self.invariant c.args.entity c.index.result.now there c.index.ensures
+    archs-count inside.entries.items inside.files c.self.invariant.0 c.args.entity c.index.result.now there c.index.ensures
     ∙ ap (λ files. length (archs_of_entity c.args.entity files)) c.self.view_is in
     omega (arith, count)

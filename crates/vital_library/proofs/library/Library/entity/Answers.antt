@@ -11,7 +11,7 @@ unreachable-requires c =
     let inside = c.self.inside in
     let there = subst (λ files. c.args.entity < length (entities files)) (sym c.self.view_is) c.requires in
     let none : entity_at inside.files c.index-entry.result.now.position ≡ None = ap (λ files. entity_at files c.index-entry.result.now.position) (sym c.as_slice.ensures) ∙ sym c.entity_in.ensures ∙ ap option_copied c.in-None.is in
-    get-none (entities inside.files) c.args.entity (sym (entity-found inside.entries.items inside.files c.self.invariant c.args.entity c.index-entry.result.now there c.index-entry.ensures) ∙ none) there
+    get-none (entities inside.files) c.args.entity (sym (entity-found inside.entries.items inside.files c.self.invariant.0 c.args.entity c.index-entry.result.now there c.index-entry.ensures) ∙ none) there
 
 pub returns : goal.returns
 returns c =
@@ -19,5 +19,5 @@ returns c =
     let there = subst (λ files. c.args.entity < length (entities files)) (sym c.self.view_is) c.requires in
     let found : entity_at inside.files c.index-entry.result.now.position ≡ Some c.in-Some.entity.now = ap (λ files. entity_at files c.index-entry.result.now.position) (sym c.as_slice.ensures) ∙ sym c.entity_in.ensures ∙ ap option_copied c.in-Some.is in
     ap (λ files. slice_get (entities files) c.args.entity) (sym c.self.view_is)
-    ∙ sym (entity-found inside.entries.items inside.files c.self.invariant c.args.entity c.index-entry.result.now there c.index-entry.ensures)
+    ∙ sym (entity-found inside.entries.items inside.files c.self.invariant.0 c.args.entity c.index-entry.result.now there c.index-entry.ensures)
     ∙ found
