@@ -1,24 +1,24 @@
 -- Bytes appended to what a sink tells.
-use Rattle.std.proofs.Common.{◌≡◌, ℕ, ◌+◌, ◌-◌, List, [], ◌++◌, length, take, drop, Option, None, Some, refl, ap, append_assoc}
+use Rattle.std.proofs.Common.{◌≡◌, ℕ, ◌+◌, ◌-◌, List, [], ◌++◌, length, take, drop, refl, ap, append_assoc}
 use Rattle.std.proofs.Math.Seq.{take-add, take-length}
 use Rattle.std.proofs.lemmas.List.{append-nil, length-drop}
-use Rattle.vital_base.specs.Sinks.{appended}
+use Rattle.vital_base.specs.Sinks.{Told, got, untold, appended}
 
 -- one piece after another is both pieces in one
-pub appended-appended : (told : Option (List ℕ)) (xs ys : List ℕ) → appended (appended told xs) ys ≡ appended told (xs ++ ys)
-appended-appended None xs ys = refl
-appended-appended (Some before) xs ys = ap Some (append_assoc before xs ys)
+pub appended-appended : (told : Told) (xs ys : List ℕ) → appended (appended told xs) ys ≡ appended told (xs ++ ys)
+appended-appended untold xs ys = refl
+appended-appended (got before) xs ys = ap got (append_assoc before xs ys)
 
-pub appended-nil : (told : Option (List ℕ)) → appended told [] ≡ told
-appended-nil None = refl
-appended-nil (Some before) = ap Some (append-nil before)
+pub appended-nil : (told : Told) → appended told [] ≡ told
+appended-nil untold = refl
+appended-nil (got before) = ap got (append-nil before)
 
 -- the rest of a piece as its slice gives it
 pub rest_is : (n : ℕ) (piece : List ℕ) → take (length piece - n) (drop n piece) ≡ drop n piece
 rest_is n piece = rw (← length-drop n piece) (take-length (drop n piece))
 
 -- the first bytes of a piece, and then the first of its rest
-pub appended-take-add : (told : Option (List ℕ)) (piece : List ℕ) (n m : ℕ)
+pub appended-take-add : (told : Told) (piece : List ℕ) (n m : ℕ)
     → appended (appended told (take n piece)) (take m (take (length piece - n) (drop n piece))) ≡ appended told (take (n + m) piece)
 appended-take-add told piece n m =
     rw (rest_is n piece, take-add n m piece) (appended-appended told (take n piece) (take m (drop n piece)))

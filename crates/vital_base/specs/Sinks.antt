@@ -1,11 +1,16 @@
--- What a sink tells of the bytes that it got.
-use Rattle.std.specs.Prelude.{ℕ, ◌≡◌, ◌++◌, List, Option, take}
-use Rattle.std.specs.Option.{option_map}
+-- What a sink tells of what it got.
+use Rattle.std.specs.Prelude.{ℕ, ◌≡◌, ◌++◌, List, take}
 
--- The told bytes with more bytes after them; still nothing where none are told.
-abbrev pub appended : Option (List ℕ) → List ℕ → Option (List ℕ)
-appended told bytes = option_map (λ before. before ++ bytes) told
+-- What a sink tells: that it got these bytes, in order; or nothing of them.
+pub data Told : Type 0 where
+  got : (bytes : List ℕ) → Told
+  untold : Told
+
+-- What is told once more bytes came after those: still nothing where none are told.
+abbrev pub appended : Told → List ℕ → Told
+appended (got before) bytes = got (before ++ bytes)
+appended untold bytes = untold
 
 -- A prefix of the piece was appended: none of it, all of it, or so many first bytes.
-abbrev pub AppendsPrefix : Option (List ℕ) → List ℕ → Option (List ℕ) → Type 0
+abbrev pub AppendsPrefix : Told → List ℕ → Told → Type 0
 AppendsPrefix old piece new = (count : ℕ) × (new ≡ appended old (take count piece))

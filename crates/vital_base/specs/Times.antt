@@ -4,7 +4,6 @@ use Rattle.std.specs.Char.{is_ascii_digit}
 use Rattle.std.specs.List.{list_all}
 use Rattle.std.specs.Str.{bytes_eq}
 use Rattle.std.specs.Str.Parse.{digits_value}
-use Rattle.vital_base.specs.declared.time.TheConstants.{GREATEST_TIME}
 use Rattle.vital_base.specs.declared.time.TimeUnit.{TimeUnit}
 use Rattle.vital_base.specs.declared.time.TimeUnit.TheVariants.{Femtosecond, Picosecond, Nanosecond, Microsecond, Millisecond}
 
@@ -34,7 +33,7 @@ is_number digits = nat_le 1 (length digits) && nat_le (length digits) 19 && list
 abbrev pub number_of : List ℕ → Option ℕ
 number_of digits = if is_number digits then Some (digits_value 10 digits) else None
 
--- So many of a unit, in femtoseconds; nothing where that is above 2^60.
+-- So many of a unit, in femtoseconds; nothing where that is above 2^60 fs.
 abbrev pub time_of : ℕ → TimeUnit → Option ℕ
 time_of number unit =
-    if nat_le (number * femtoseconds unit) GREATEST_TIME then Some (number * femtoseconds unit) else None
+    if nat_le (number * femtoseconds unit) 1_152_921_504_606_846_976 then Some (number * femtoseconds unit) else None

@@ -1,25 +1,50 @@
 ghost use Rattle.std.specs.Prelude.{◌≡◌, ℕ, List};
 
-use std::marker::Model;
+use std::marker::{Model, PhantomData};
 
-/// Bytes in order, such as those of a file.
+/// Bytes in order, of which the type parameter says what they are.
 #[derive(Debug, Drop)]
-pub struct Bytes {
+pub struct BytesOf<What> {
     bytes: Vec<u8>,
+    what: PhantomData<What>,
 }
 
-impl Model for Bytes {
+/// What a file holds.
+#[derive(Debug, Drop)]
+pub struct Content;
+
+/// What something is called.
+#[derive(Debug, Drop)]
+pub struct Naming;
+
+/// What a user types between blanks.
+#[derive(Debug, Drop)]
+pub struct Argument;
+
+/// Bytes in order, such as those of a file.
+pub type Bytes = BytesOf<Content>;
+
+/// A name: of a file, as the bytes of its word, or of an identifier as it is printed.
+pub type Name = BytesOf<Naming>;
+
+/// One word of the command line, as its bytes.
+pub type Word = BytesOf<Argument>;
+
+impl<What> Model for BytesOf<What> {
     ghost Value = { List ℕ };
 
     ghost view = { λ b. b.bytes.items };
 }
 
-impl Bytes {
+impl<What> BytesOf<What> {
     /// The bytes of a vector. It takes no memory.
     pub fn new(bytes: Vec<u8>) -> Self
         ensures { result ≡ bytes.items }
     {
-        Bytes { bytes }
+        BytesOf {
+            bytes,
+            what: PhantomData,
+        }
     }
 
     /// The bytes, borrowed.
@@ -33,7 +58,7 @@ impl Bytes {
     pub fn into_vec(self) -> Vec<u8>
         ensures { result.items ≡ self }
     {
-        let Bytes { bytes } = self;
+        let BytesOf { bytes, what: _ } = self;
         bytes
     }
 }

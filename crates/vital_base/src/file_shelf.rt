@@ -1,7 +1,7 @@
 ghost use Rattle.std.specs.Prelude.{◌≡◌, false};
 
+use crate::bytes::Name;
 use crate::failed::Failed;
-use crate::name::Name;
 use crate::shelf::Shelf;
 use std::fs;
 use std::io::Read;
@@ -59,6 +59,8 @@ impl<R: Files> Shelf for FileShelf<R> {
     ghost faults = { λ shelf. shelf.faults };
 
     ghost is_steady = { λ _. ⊥ };
+
+    ghost history = { λ _. None };
 
     fn open(&mut self, name: &Name) -> Result<(), Failed> {
         self.file = opened(&self.runtime, name);

@@ -1,6 +1,8 @@
-//! What every other crate stands on: times, names and small lists, and the devices that a run reads from and writes to.
+//! What every other crate stands on: times, names and small lists, places and the clauses broken at them, and the devices that a
+//! run reads from and writes to.
 #![tactic(auto)]
 
+mod breach;
 mod bytes;
 mod failed;
 mod file_shelf;
@@ -9,7 +11,6 @@ mod list;
 mod load;
 mod mem_shelf;
 mod mem_sink;
-mod name;
 mod place;
 mod ports;
 mod shelf;
@@ -18,10 +19,10 @@ mod std_sink;
 #[cfg(test)]
 mod tests;
 mod time;
-mod word;
 mod write;
 
-pub use bytes::Bytes;
+pub use breach::{Breach, Breaches, Clause};
+pub use bytes::{Argument, Bytes, BytesOf, Content, Name, Naming, Word};
 pub use failed::Failed;
 pub use file_shelf::FileShelf;
 pub use kind::Kind;
@@ -29,12 +30,10 @@ pub use list::List;
 pub use load::{LONGEST_FILE, LoadError, read_file};
 pub use mem_shelf::{MemFile, MemShelf};
 pub use mem_sink::MemSink;
-pub use name::Name;
 pub use place::Place;
 pub use ports::{PortBit, Ports};
 pub use shelf::Shelf;
 pub use sink::Sink;
 pub use std_sink::StdSink;
 pub use time::{GREATEST_TIME, Time, TimeUnit, read_number};
-pub use word::Word;
 pub use write::{WriteFault, write_all};

@@ -1,9 +1,9 @@
 ghost use Rattle.std.specs.Prelude.{◌≡◌, ◌≢◌, ◌<◌, ◌≤◌, length, None, Some, IfOk, IsErrOf, IfSome, IsSomeAnd};
 ghost use Rattle.vital_base.specs.Faults.{Rose};
+ghost use Rattle.vital_base.specs.Shelves.{LoadsOne};
 
-use crate::bytes::Bytes;
+use crate::bytes::{Bytes, Name};
 use crate::failed::Failed;
-use crate::name::Name;
 use crate::shelf::Shelf;
 use std::alloc::{AllocError, Global};
 use thiserror::Error;
@@ -52,16 +52,19 @@ impl From<AllocError> for LoadError {
 
 /// All bytes of the file of this name.
 ///
-/// The shelf opens it at its start, in place of a file that was open, before any memory is taken. At most
-/// `LONGEST_FILE + 1` reads succeed: each but the last takes one or more bytes, and the reading ends with the first byte too
-/// many. What is left of the file after the call is not told: the next call opens its own.
+/// The shelf opens it at its start, in place of a file that was open, before any memory is taken. Each read but the last
+/// takes one or more bytes, and the reading ends with the first byte too many, or with the end. What is left of the file
+/// after the call is not told: the next call opens its own.
 pub fn read_file<S: Shelf>(alloc: Global, shelf: &mut S, name: &Name) -> Result<Bytes, LoadError>
     ensures keeps_files { S.files shelf.new ≡ S.files shelf.old }
     ensures stays_steady { S.is_steady shelf.old → S.is_steady shelf.new }
     ensures never_falls { S.faults shelf.old ≤ S.faults shelf.new }
 
+    // No other name is opened, at most 16,777,217 reads succeed, and none of them comes after the end.
+    ensures loads_one { LoadsOne name.now (S.history shelf.old) (S.history shelf.new) }
+
     ensures ok_whole { IfOk result (λ bytes. IfSome (S.files shelf.old) (λ told. told name.now ≡ Some bytes)) }
-    ensures ok_within { IfOk result (λ bytes. length bytes ≤ LONGEST_FILE) }
+    ensures ok_within { IfOk result (λ bytes. length bytes ≤ 16_777_216) }
 
     // A fault comes only where the count rose, and over a steady shelf only where the name is not there.
     ensures fault_rose { IsErrOf result LoadError.ReadFault → Rose (S.faults shelf.old) (S.faults shelf.new) }
@@ -73,7 +76,7 @@ pub fn read_file<S: Shelf>(alloc: Global, shelf: &mut S, name: &Name) -> Result<
         → S.faults shelf.new ≡ S.faults shelf.old }
 
     ensures too_long { IsErrOf result LoadError.TooLong
-        → IfSome (S.files shelf.old) (λ told. IsSomeAnd (told name.now) (λ bytes. LONGEST_FILE < length bytes)) }
+        → IfSome (S.files shelf.old) (λ told. IsSomeAnd (told name.now) (λ bytes. 16_777_216 < length bytes)) }
 {
     shelf.open(name)?;
     let mut bytes = Vec::new(alloc);

@@ -4,10 +4,9 @@ ghost use Rattle.vital_base.specs.Faults.{counted};
 ghost use Rattle.vital_base.specs.MemShelves.{file_named, left_of};
 ghost use Rattle.vital_base.specs.Shelves.{TakesNext};
 
-use crate::bytes::Bytes;
+use crate::bytes::{Bytes, Name};
 use crate::failed::{Failed, is_listed};
 use crate::list::List;
-use crate::name::Name;
 use crate::shelf::Shelf;
 use std::marker::Model;
 
@@ -103,7 +102,7 @@ fn copy_front(left: &[u8], piece: &mut [u8], most: usize) -> usize
 }
 
 impl Shelf for MemShelf {
-    ghost use Rattle.std.specs.Prelude.{◌≡◌, [], Some};
+    ghost use Rattle.std.specs.Prelude.{◌≡◌, [], None, Some};
     ghost use Rattle.vital_base.specs.MemShelves.{file_named};
 
     ghost files = { λ shelf. Some (file_named shelf.files) };
@@ -113,6 +112,8 @@ impl Shelf for MemShelf {
     ghost faults = { λ shelf. shelf.faults };
 
     ghost is_steady = { λ shelf. shelf.fails ≡ [] };
+
+    ghost history = { λ _. None };
 
     fn open(&mut self, name: &Name) -> Result<(), Failed>
         ensures fails { IsErr result

@@ -55,9 +55,10 @@ impl MemSink {
 }
 
 impl Sink for MemSink {
-    ghost use Rattle.std.specs.Prelude.{◌≡◌, Some};
+    ghost use Rattle.std.specs.Prelude.{◌≡◌};
+    ghost use Rattle.vital_base.specs.Sinks.{got};
 
-    ghost bytes = { λ sink. Some sink.bytes };
+    ghost told = { λ sink. got sink.bytes };
 
     ghost faults = { λ sink. sink.faults };
 

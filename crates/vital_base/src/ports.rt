@@ -1,5 +1,5 @@
+use crate::bytes::Name;
 use crate::list::List;
-use crate::name::Name;
 
 /// One bit of the ports of the top unit.
 #[derive(Debug, Drop)]

@@ -1,13 +1,13 @@
-ghost use Rattle.std.specs.Prelude.{◌≡◌, ℕ, ◌<◌, ◌≤◌, List, length, take, Option, IfOk, OnOk, OnErr};
+ghost use Rattle.std.specs.Prelude.{◌≡◌, ℕ, ◌<◌, ◌≤◌, length, take, IfOk, OnOk, OnErr};
 ghost use Rattle.vital_base.specs.Faults.{Rose};
-ghost use Rattle.vital_base.specs.Sinks.{appended};
+ghost use Rattle.vital_base.specs.Sinks.{Told, appended};
 
 use crate::failed::Failed;
 
 /// Where bytes are written to, in order. A sink may tell the bytes that it got, and it counts its faults.
 pub trait Sink {
-    // The bytes that it got, where it tells them.
-    ghost bytes: { Self → Option (List ℕ) };
+    // What it tells of the bytes that it got.
+    ghost told: { Self → Told };
 
     // How many faults there were; the count stands still at 2^64 - 1.
     ghost faults: { Self → ℕ };
@@ -24,11 +24,11 @@ pub trait Sink {
         ensures ok_within { IfOk result (λ count. count ≤ length piece.now) }
         ensures ok_leaves_count { OnOk result (faults self.new ≡ faults self.old) }
         ensures ok_appends { IfOk result (λ count.
-            bytes self.new ≡ appended (bytes self.old) (take count piece.now)) }
+            told self.new ≡ appended (told self.old) (take count piece.now)) }
         ensures ok_sticks_where_it_may { IfOk result (λ count. count ≡ 0 → may_stick self.old) }
 
         ensures err_rose { OnErr result (Rose (faults self.old) (faults self.new)) }
-        ensures err_appends_nothing { OnErr result (bytes self.new ≡ bytes self.old) };
+        ensures err_appends_nothing { OnErr result (told self.new ≡ told self.old) };
 
     /// Counts that a write took none of a piece, as a fault. It writes nothing.
     fn note_stuck(&mut self)
@@ -36,5 +36,5 @@ pub trait Sink {
         ensures keeps_may_stick { may_stick self.new }
         ensures rose { Rose (faults self.old) (faults self.new) }
         ensures never_falls { faults self.old ≤ faults self.new }
-        ensures writes_nothing { bytes self.new ≡ bytes self.old };
+        ensures writes_nothing { told self.new ≡ told self.old };
 }

@@ -30,9 +30,10 @@ impl<P: Print> StdSink<P> {
 }
 
 impl<P: Print> Sink for StdSink<P> {
-    ghost use Rattle.std.specs.Prelude.{None, ⊤};
+    ghost use Rattle.std.specs.Prelude.{⊤};
+    ghost use Rattle.vital_base.specs.Sinks.{untold};
 
-    ghost bytes = { λ _. None };
+    ghost told = { λ _. untold };
 
     ghost faults = { λ sink. sink };
 

@@ -1,8 +1,8 @@
 ghost use Rattle.std.specs.Prelude.{◌≤◌};
 
 use crate::{
-    Bytes, FileShelf, LONGEST_FILE, List, LoadError, MemFile, MemShelf, MemSink, Name, Shelf, Sink,
-    StdSink, TimeUnit, Word, WriteFault, read_file, read_number, write_all,
+    Bytes, FileShelf, List, LoadError, MemFile, MemShelf, MemSink, Name, Shelf, Sink, StdSink,
+    TimeUnit, Word, WriteFault, read_file, read_number, write_all,
 };
 use std::alloc::{AllocError, Global};
 use std::process::Abort;
@@ -115,9 +115,9 @@ fn loaded_length(alloc: Global, length: usize) -> Result<usize, LoadError> {
 
 #[test]
 fn a_file_past_the_greatest_length_is_too_long(rt: HostRuntime) {
-    assert_eq!(rt; loaded_length(rt.alloc(), LONGEST_FILE), Ok(LONGEST_FILE));
+    assert_eq!(rt; loaded_length(rt.alloc(), 16_777_216), Ok(16_777_216));
     assert_eq!(rt;
-        loaded_length(rt.alloc(), LONGEST_FILE + 1),
+        loaded_length(rt.alloc(), 16_777_217),
         Err(LoadError::TooLong)
     );
 }

@@ -24,11 +24,11 @@ pub fn write_all<K: Sink>(sink: &mut K, piece: &[u8]) -> Result<(), WriteFault>
     ensures never_falls { K.faults sink.old ≤ K.faults sink.new }
 
     ensures ok_leaves_count { OnOk result (K.faults sink.new ≡ K.faults sink.old) }
-    ensures ok_appends { OnOk result (K.bytes sink.new ≡ appended (K.bytes sink.old) piece.now) }
+    ensures ok_appends { OnOk result (K.told sink.new ≡ appended (K.told sink.old) piece.now) }
     ensures ok_empty { piece.now ≡ [] → IsOk result }
 
     ensures fault_rose { OnErr result (Rose (K.faults sink.old) (K.faults sink.new)) }
-    ensures fault_appends_prefix { OnErr result (AppendsPrefix (K.bytes sink.old) piece.now (K.bytes sink.new)) }
+    ensures fault_appends_prefix { OnErr result (AppendsPrefix (K.told sink.old) piece.now (K.told sink.new)) }
 {
     let mut written = 0;
     while written < piece.len() {
