@@ -1,14 +1,9 @@
 -- The fields of a line, one after the other.
-use Rattle.std.proofs.Common.{◌≡◌, ◌∙◌, ℕ, ◌+◌, ◌<◌, List, [], ◌∷◌, ◌++◌, length, get_or, map, take, drop, codes, refl, ap, sym, append_assoc}
-use Rattle.std.specs.List.{flat_map}
+use Rattle.std.proofs.Common.{◌≡◌, ◌∙◌, ℕ, ◌+◌, ◌<◌, List, [], ◌∷◌, ◌++◌, length, get_or, take, drop, codes, refl, ap, sym, append_assoc}
 use Rattle.std.proofs.Math.Seq.{take-length}
 use Rattle.std.proofs.lemmas.List.{append-nil, take_more, take-append-drop}
 use Rattle.vital_report.specs.declared.field.Field.{Field}
-use Rattle.vital_report.specs.Fields.{field_bytes}
-
--- each field after a blank
-abbrev pub fields_text : List Field → List ℕ
-fields_text fields = flat_map (λ field. codes " " ++ field) (map field_bytes fields)
+use Rattle.vital_report.specs.Fields.{field_bytes, fields_text}
 
 fields_text-append : (xs ys : List Field) → fields_text (xs ++ ys) ≡ fields_text xs ++ fields_text ys
 fields_text-append [] ys = refl
@@ -33,14 +28,13 @@ pub all_fields : (start : List ℕ) (fields : List Field) (i : ℕ) → i ≡ le
 all_fields start fields i at = ap (λ (xs : List Field). start ++ fields_text xs) (rw at (take-length fields))
 
 -- a line begins with its start
-pub after_start : (held start end : List ℕ) (fields : List Field)
-    → (held ++ start) ++ (fields_text fields ++ end) ≡ held ++ ((start ++ fields_text fields) ++ end)
-after_start held start end fields = simp append_assoc
+pub after_start : (start end : List ℕ) (fields : List Field) → start ++ (fields_text fields ++ end) ≡ (start ++ fields_text fields) ++ end
+after_start start end fields = sym (append_assoc start (fields_text fields) end)
 
 -- a line begins with its start and its first fields
-pub rest_of_line : (held start end : List ℕ) (fields : List Field) (i : ℕ)
-    → (held ++ (start ++ fields_text (take i fields))) ++ (fields_text (drop i fields) ++ end) ≡ held ++ ((start ++ fields_text fields) ++ end)
-rest_of_line held start end fields i =
+pub rest_of_line : (start end : List ℕ) (fields : List Field) (i : ℕ)
+    → (start ++ fields_text (take i fields)) ++ (fields_text (drop i fields) ++ end) ≡ (start ++ fields_text fields) ++ end
+rest_of_line start end fields i =
     let whole : fields_text (take i fields) ++ fields_text (drop i fields) ≡ fields_text fields =
     sym (fields_text-append (take i fields) (drop i fields)) ∙ ap fields_text (take-append-drop i fields) in
     rw (← whole) (simp append_assoc)

@@ -1,5 +1,6 @@
 -- The fields of a line.
-use Rattle.std.specs.Prelude.{ℕ, List, [], ◌∷◌, decimal}
+use Rattle.std.specs.Prelude.{ℕ, List, [], ◌∷◌, ◌++◌, codes, decimal, map}
+use Rattle.std.specs.List.{flat_map}
 use Rattle.vital_logic.specs.Levels.{byte_of}
 use Rattle.vital_report.specs.declared.field.Field.{Field}
 use Rattle.vital_report.specs.declared.field.Field.TheVariants.{Text, Number, Level as Value}
@@ -11,6 +12,10 @@ abbrev pub field_bytes : Field → List ℕ
 field_bytes (Text text) = text.now
 field_bytes (Number number) = decimal number
 field_bytes (Value level) = byte_of level ∷ []
+
+-- Each field after a blank.
+abbrev pub fields_text : List Field → List ℕ
+fields_text fields = flat_map (λ field. codes " " ++ field) (map field_bytes fields)
 
 -- The fields in order.
 abbrev pub listed : Fields → List Field

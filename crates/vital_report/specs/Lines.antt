@@ -9,7 +9,7 @@ use Rattle.vital_report.specs.declared.line.Position.{Position}
 use Rattle.vital_report.specs.declared.line.UsageWhy.{UsageWhy}
 use Rattle.vital_report.specs.declared.line.UsageWhy.TheVariants.{Command, Key, Twice, Value, Missing}
 use Rattle.vital_report.specs.declared.line.StimulusWhy.{StimulusWhy}
-use Rattle.vital_report.specs.declared.line.StimulusWhy.TheVariants.{BadLine, BadUnit, TooLarge, BadValue, Falls}
+use Rattle.vital_report.specs.declared.line.StimulusWhy.TheVariants as stimulus
 use Rattle.vital_report.specs.declared.line.LexicalWhy.{LexicalWhy}
 use Rattle.vital_report.specs.declared.line.LexicalWhy.TheVariants.{Character, Unclosed}
 use Rattle.vital_report.specs.declared.line.Limit.{Limit}
@@ -65,11 +65,11 @@ usage_word Missing = codes "missing"
 
 -- Why a stimulus file is refused, in a word.
 abbrev pub stimulus_word : StimulusWhy → List ℕ
-stimulus_word BadLine = codes "line"
-stimulus_word BadUnit = codes "unit"
-stimulus_word TooLarge = codes "large"
-stimulus_word BadValue = codes "value"
-stimulus_word Falls = codes "falls"
+stimulus_word stimulus.Line = codes "line"
+stimulus_word stimulus.Unit = codes "unit"
+stimulus_word stimulus.Large = codes "large"
+stimulus_word stimulus.Value = codes "value"
+stimulus_word stimulus.Falls = codes "falls"
 
 -- Why a VHDL text is no row of lexemes, in a word.
 abbrev pub lexical_word : LexicalWhy → List ℕ

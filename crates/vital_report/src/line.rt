@@ -105,13 +105,13 @@ impl UsageWhy {
 #[derive(Clone, Copy, Debug, PartialEq, Eq)]
 pub enum StimulusWhy {
     /// A line is not one time, unit, port and value.
-    BadLine,
+    Line,
     /// A unit is none of those of time.
-    BadUnit,
+    Unit,
     /// A time is past the greatest one.
-    TooLarge,
+    Large,
     /// A value is no level.
-    BadValue,
+    Value,
     /// A time is below that of the line before.
     Falls,
 }
@@ -122,10 +122,10 @@ impl StimulusWhy {
         ensures { result.now ≡ stimulus_word self }
     {
         match self {
-            StimulusWhy::BadLine => b"line",
-            StimulusWhy::BadUnit => b"unit",
-            StimulusWhy::TooLarge => b"large",
-            StimulusWhy::BadValue => b"value",
+            StimulusWhy::Line => b"line",
+            StimulusWhy::Unit => b"unit",
+            StimulusWhy::Large => b"large",
+            StimulusWhy::Value => b"value",
             StimulusWhy::Falls => b"falls",
         }
     }

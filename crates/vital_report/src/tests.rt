@@ -1,225 +1,155 @@
-use crate::{LexicalWhy, LibraryWhy, Limit, Line, Position, Reporter, StimulusWhy, UsageWhy};
+use crate::{
+    LexicalWhy, LibraryWhy, Limit, Line, Position, Printer, Reporter, StimulusWhy, UsageWhy,
+};
 use std::alloc::{AllocError, Global};
 use std::test::Fail;
-use vital_base::{List, MemSink, Name, WriteFault};
+use vital_base::{List, MemSink, Name, Sink, WriteFault};
 use vital_logic::Level;
 
+const USAGE: [(u64, UsageWhy, &str); 5] = [
+    (1, UsageWhy::Command, "refused usage 1 command\n"),
+    (2, UsageWhy::Key, "refused usage 2 key\n"),
+    (10, UsageWhy::Twice, "refused usage 10 twice\n"),
+    (3, UsageWhy::Value, "refused usage 3 value\n"),
+    (4, UsageWhy::Missing, "refused usage 4 missing\n"),
+];
+
+const STIMULUS: [(u32, StimulusWhy, &str); 5] = [
+    (1, StimulusWhy::Line, "refused stimulus line f.x 1\n"),
+    (2, StimulusWhy::Unit, "refused stimulus unit f.x 2\n"),
+    (3, StimulusWhy::Large, "refused stimulus large f.x 3\n"),
+    (4, StimulusWhy::Value, "refused stimulus value f.x 4\n"),
+    (5, StimulusWhy::Falls, "refused stimulus falls f.x 5\n"),
+];
+
+const LEXICAL: [(LexicalWhy, &str); 2] = [
+    (
+        LexicalWhy::Character,
+        "refused lexical f.x 12 3 character\n",
+    ),
+    (LexicalWhy::Unclosed, "refused lexical f.x 12 3 unclosed\n"),
+];
+
+const LIMITS: [(Limit, &str); 4] = [
+    (Limit::File, "refused limit file f.x 12 3\n"),
+    (Limit::Tokens, "refused limit tokens f.x 12 3\n"),
+    (Limit::Nesting, "refused limit nesting f.x 12 3\n"),
+    (Limit::Units, "refused limit units f.x 12 3\n"),
+];
+
+const LIBRARY: [(LibraryWhy, &str); 2] = [
+    (
+        LibraryWhy::Duplicate,
+        "refused library duplicate f.x 12 3\n",
+    ),
+    (LibraryWhy::Entity, "refused library entity f.x 12 3\n"),
+];
+
+/// Times, delta numbers and values of events, each with its line.
+const EVENTS: [(u64, u64, Level, &str); 3] = [
+    (0, 0, Level::U, "event 0 0 f.x U\n"),
+    (25_000, 2, Level::Dash, "event 25000 2 f.x -\n"),
+    (
+        1_152_921_504_606_846_976,
+        18_446_744_073_709_551_615,
+        Level::Zero,
+        "event 1152921504606846976 18446744073709551615 f.x 0\n",
+    ),
+];
+
+/// A sink whose writes take so many bytes, and the one with this number fails. There is no write 0.
 fn sink(alloc: Global, piece: u32, fails: u32) -> Result<MemSink, AllocError> {
     let mut listed = Vec::new(alloc);
     listed.push(fails)?;
     Ok(MemSink::new(alloc, piece, List::new(listed)))
 }
 
+/// Whether the line is printed as this text, and a flush writes no more.
+fn is_printed(alloc: Global, line: &Line<'_>, text: &str) -> Result<bool, AllocError> {
+    let mut got = sink(alloc, 1_000, 0)?;
+    let mut reporter = Reporter::new(alloc)?;
+    let put = reporter.put(&mut got, line);
+    let is_put = put.is_ok() && got.bytes() == text.as_bytes();
+    let flushed = reporter.flush(&mut got);
+    Ok(is_put && flushed.is_ok() && got.bytes() == text.as_bytes())
+}
+
+fn name(alloc: Global, text: &[u8]) -> Result<Name, AllocError> {
+    Ok(Name::new(text.to_vec(alloc)?))
+}
+
 #[test]
-fn lines_are_printed(rt: HostRuntime) -> Result<(), Fail> {
+fn lines_of_a_run_are_printed(rt: HostRuntime) -> Result<(), Fail> {
     let alloc = rt.alloc();
-    let name = Name::new(b"s.vcd".to_vec(alloc)?);
-    for (line, text) in [
-        (Line::Version, "vital 1\n"),
-        (
-            Line::Init {
-                name: &name,
-                value: Level::U,
-            },
-            "init s.vcd U\n",
-        ),
-        (
-            Line::Event {
-                time: 25_000,
-                delta: 2,
-                name: &name,
-                value: Level::Dash,
-            },
-            "event 25000 2 s.vcd -\n",
-        ),
-        (
-            Line::End {
-                time: 1_152_921_504_606_846_976,
-            },
-            "end 1152921504606846976\n",
-        ),
-        (
-            Line::RefusedUsage {
-                word: 1,
-                why: UsageWhy::Command,
-            },
-            "refused usage 1 command\n",
-        ),
-        (
-            Line::RefusedUsage {
-                word: 2,
-                why: UsageWhy::Key,
-            },
-            "refused usage 2 key\n",
-        ),
-        (
-            Line::RefusedUsage {
-                word: 10,
-                why: UsageWhy::Twice,
-            },
-            "refused usage 10 twice\n",
-        ),
-        (
-            Line::RefusedUsage {
-                word: 3,
-                why: UsageWhy::Value,
-            },
-            "refused usage 3 value\n",
-        ),
-        (
-            Line::RefusedUsage {
-                word: 4,
-                why: UsageWhy::Missing,
-            },
-            "refused usage 4 missing\n",
-        ),
-        (
-            Line::RefusedStimulus {
-                why: StimulusWhy::BadLine,
-                file: &name,
-                line: 1,
-            },
-            "refused stimulus line s.vcd 1\n",
-        ),
-        (
-            Line::RefusedStimulus {
-                why: StimulusWhy::BadUnit,
-                file: &name,
-                line: 2,
-            },
-            "refused stimulus unit s.vcd 2\n",
-        ),
-        (
-            Line::RefusedStimulus {
-                why: StimulusWhy::TooLarge,
-                file: &name,
-                line: 3,
-            },
-            "refused stimulus large s.vcd 3\n",
-        ),
-        (
-            Line::RefusedStimulus {
-                why: StimulusWhy::BadValue,
-                file: &name,
-                line: 4,
-            },
-            "refused stimulus value s.vcd 4\n",
-        ),
-        (
-            Line::RefusedStimulus {
-                why: StimulusWhy::Falls,
-                file: &name,
-                line: 5,
-            },
-            "refused stimulus falls s.vcd 5\n",
-        ),
-    ] {
-        let mut got = sink(alloc, 1_000, 0)?;
-        let mut reporter = Reporter::new(alloc)?;
-        assert_eq!(rt; reporter.put(&mut got, &line), Ok(()));
-        assert!(rt; got.bytes() == text.as_bytes());
-        assert_eq!(rt; reporter.flush(&mut got), Ok(()));
-        assert!(rt; got.bytes() == text.as_bytes());
+    let name = &name(alloc, b"f.x")?;
+    assert!(rt; is_printed(alloc, &Line::Version, "vital 1\n")?);
+    let value = Level::One;
+    assert!(rt; is_printed(alloc, &Line::Init { name, value }, "init f.x 1\n")?);
+    assert!(rt; is_printed(alloc, &Line::End { time: 7 }, "end 7\n")?);
+    for (time, delta, value, text) in EVENTS {
+        let line = Line::Event {
+            time,
+            delta,
+            name,
+            value,
+        };
+        assert!(rt; is_printed(alloc, &line, text)?);
     }
     Ok(())
 }
 
-fn cell_read<'a>(entity: &'a Name, arch: Option<&'a Name>) -> Line<'a> {
-    Line::CellRead { entity, arch }
+#[test]
+fn lines_of_cells_are_printed(rt: HostRuntime) -> Result<(), Fail> {
+    let alloc = rt.alloc();
+    let (entity, arch) = (&name(alloc, b"nand2")?, &name(alloc, b"vital")?);
+    for (arch, text) in [
+        (Some(arch), "cell nand2 vital read\n"),
+        (None, "cell nand2 - read\n"),
+    ] {
+        assert!(rt; is_printed(alloc, &Line::CellRead { entity, arch }, text)?);
+    }
+    Ok(())
 }
 
 #[test]
-fn lines_of_cells_and_places_are_printed(rt: HostRuntime) -> Result<(), Fail> {
+fn refusals_of_words_and_stimuli_are_printed(rt: HostRuntime) -> Result<(), Fail> {
     let alloc = rt.alloc();
-    let name = Name::new(b"cells.vhd".to_vec(alloc)?);
-    let entity = Name::new(b"nand2".to_vec(alloc)?);
-    let arch = Name::new(b"vital".to_vec(alloc)?);
+    let file = &name(alloc, b"f.x")?;
+    for (word, why, text) in USAGE {
+        assert!(rt; is_printed(alloc, &Line::RefusedUsage { word, why }, text)?);
+    }
+    for (line, why, text) in STIMULUS {
+        assert!(rt; is_printed(alloc, &Line::RefusedStimulus { why, file, line }, text)?);
+    }
+    Ok(())
+}
+
+#[test]
+fn refusals_at_places_are_printed(rt: HostRuntime) -> Result<(), Fail> {
+    let alloc = rt.alloc();
+    let file = &name(alloc, b"f.x")?;
+    let (line, column) = (12, 3);
+    let at = Position { file, line, column };
+    for (why, text) in LEXICAL {
+        assert!(rt; is_printed(alloc, &Line::RefusedLexical { at, why }, text)?);
+    }
+    for (limit, text) in LIMITS {
+        assert!(rt; is_printed(alloc, &Line::RefusedLimit { limit, at }, text)?);
+    }
+    for (why, text) in LIBRARY {
+        assert!(rt; is_printed(alloc, &Line::RefusedLibrary { why, at }, text)?);
+    }
     let at = Position {
-        file: &name,
-        line: 12,
-        column: 3,
-    };
-    let whole = Position {
-        line: 0,
-        column: 0,
+        line: 4_294_967_295,
         ..at
     };
-    for (line, text) in [
-        (cell_read(&entity, Some(&arch)), "cell nand2 vital read\n"),
-        (cell_read(&entity, None), "cell nand2 - read\n"),
-        (
-            Line::RefusedLexical {
-                at,
-                why: LexicalWhy::Character,
-            },
-            "refused lexical cells.vhd 12 3 character\n",
-        ),
-        (
-            Line::RefusedLexical {
-                at,
-                why: LexicalWhy::Unclosed,
-            },
-            "refused lexical cells.vhd 12 3 unclosed\n",
-        ),
-        (
-            Line::RefusedSyntax {
-                at: Position {
-                    line: 4_294_967_295,
-                    ..at
-                },
-            },
-            "refused syntax cells.vhd 4294967295 3\n",
-        ),
-        (
-            Line::RefusedLimit {
-                limit: Limit::File,
-                at: whole,
-            },
-            "refused limit file cells.vhd 0 0\n",
-        ),
-        (
-            Line::RefusedLimit {
-                limit: Limit::Tokens,
-                at,
-            },
-            "refused limit tokens cells.vhd 12 3\n",
-        ),
-        (
-            Line::RefusedLimit {
-                limit: Limit::Nesting,
-                at,
-            },
-            "refused limit nesting cells.vhd 12 3\n",
-        ),
-        (
-            Line::RefusedLimit {
-                limit: Limit::Units,
-                at,
-            },
-            "refused limit units cells.vhd 12 3\n",
-        ),
-        (
-            Line::RefusedLibrary {
-                why: LibraryWhy::Duplicate,
-                at,
-            },
-            "refused library duplicate cells.vhd 12 3\n",
-        ),
-        (
-            Line::RefusedLibrary {
-                why: LibraryWhy::Entity,
-                at,
-            },
-            "refused library entity cells.vhd 12 3\n",
-        ),
-    ] {
-        let mut got = sink(alloc, 1_000, 0)?;
-        let mut reporter = Reporter::new(alloc)?;
-        assert_eq!(rt; reporter.put(&mut got, &line), Ok(()));
-        assert!(rt; got.bytes() == text.as_bytes());
-        assert_eq!(rt; reporter.flush(&mut got), Ok(()));
-        assert!(rt; got.bytes() == text.as_bytes());
-    }
+    assert!(rt;
+        is_printed(
+            alloc,
+            &Line::RefusedSyntax { at },
+            "refused syntax f.x 4294967295 3\n"
+        )?
+    );
     Ok(())
 }
 
@@ -240,18 +170,53 @@ fn a_reporter_stops_at_a_fault(rt: HostRuntime) -> Result<(), Fail> {
     Ok(())
 }
 
+/// How many bytes of `init NAME 1` are written where the name has so many, and this write fails.
+fn init_length(alloc: Global, length: usize, fails: u32) -> Result<usize, AllocError> {
+    let name = &Name::new(vec![in alloc; b'x'; length]?);
+    let value = Level::One;
+    let mut got = sink(alloc, 20_000, fails)?;
+    let _ = Reporter::new(alloc)?.put(&mut got, &Line::Init { name, value });
+    Ok(got.bytes().len())
+}
+
 #[test]
 fn names_may_be_longer_than_the_room(rt: HostRuntime) -> Result<(), Fail> {
+    for (length, fails, written) in [
+        (4_088, 2, 4_096),
+        (4_089, 1, 0),
+        (4_089, 2, 4),
+        (4_089, 3, 5),
+        (4_089, 4, 4_094),
+        (4_089, 6, 4_096),
+        (4_089, 0, 4_097),
+        (10_000, 0, 10_008),
+    ] {
+        assert_eq!(rt; init_length(rt.alloc(), length, fails)?, written);
+    }
+    Ok(())
+}
+
+/// Prints two lines, of which the first that fails ends it.
+fn print_two<K: Sink>(reporter: Reporter, sink: &mut K) -> Result<(), WriteFault> {
+    let mut printer = Printer::new(reporter, sink);
+    printer.print(&Line::Version)?;
+    printer.print(&Line::End { time: 1 })?;
+    printer.flush()?;
+    let _ = printer.into_sink();
+    Ok(())
+}
+
+#[test]
+fn a_printer_prints_after_what_its_sink_got(rt: HostRuntime) -> Result<(), Fail> {
     let alloc = rt.alloc();
-    let name = Name::new(vec![in alloc; b'x'; 10_000]?);
-    let mut got = sink(alloc, 7_000, 0)?;
-    let mut reporter = Reporter::new(alloc)?;
-    let line = Line::Init {
-        name: &name,
-        value: Level::One,
-    };
-    assert_eq!(rt; reporter.put(&mut got, &line), Ok(()));
-    assert_eq!(rt; got.bytes().len(), 10_008);
-    assert!(rt; got.bytes().starts_with(b"init xx") && got.bytes().ends_with(b"xx 1\n"));
+    for (fails, answer, text) in [
+        (0, Ok(()), "vital 1\nend 1\n"),
+        (1, Err(WriteFault), ""),
+        (2, Err(WriteFault), "vital 1\n"),
+    ] {
+        let mut got = sink(alloc, 100, fails)?;
+        assert_eq!(rt; print_two(Reporter::new(alloc)?, &mut got), answer);
+        assert!(rt; got.bytes() == text.as_bytes());
+    }
     Ok(())
 }
