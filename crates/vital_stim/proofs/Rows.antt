@@ -7,7 +7,7 @@ use Rattle.vital_logic.specs.declared.level.Level.TheVariants.{Zero, One, Z, X}
 use Rattle.vital_stim.specs.Parts.{is_blank}
 use Rattle.vital_stim.specs.PortForm.{is_port}
 use Rattle.vital_stim.specs.Stimuli.{stim}
-use Rattle.vital_stim.specs.declared.fault.StimWhy.TheVariants.{Line, Unit as UnknownUnit, TimeLarge, Value, TimeFalls}
+use Rattle.vital_stim.specs.declared.fault.StimWhy.TheVariants.{Line, Unit as UnknownUnit, Large, Value, Falls}
 use Rattle.vital_stim.specs.declared.fault.StimWhy.{StimWhy}
 use Rattle.vital_stim.specs.declared.fault.StimFault.{StimFault}
 use Rattle.vital_stim.specs.declared.stimuli.StimLine.{StimLine}
@@ -54,7 +54,7 @@ unit_unknown : stim (codes "5 min a 1") ≡ fault 1 UnknownUnit
 unfolding is_blank
 unit_unknown = refl
 
-nines : stim (codes "9999999999999999999 ms a 1") ≡ fault 1 TimeLarge
+nines : stim (codes "9999999999999999999 ms a 1") ≡ fault 1 Large
 unfolding is_blank
 nines = refl
 
@@ -62,7 +62,7 @@ greatest : stim (codes "1152921504606846976 fs a x") ≡ one (codes "a") (at 1_1
 unfolding is_blank
 greatest = refl
 
-past_greatest : stim (codes "1152921504606846977 fs a x") ≡ fault 1 TimeLarge
+past_greatest : stim (codes "1152921504606846977 fs a x") ≡ fault 1 Large
 unfolding is_blank
 past_greatest = refl
 
@@ -70,7 +70,7 @@ no_level : stim (codes "5 ns a 2") ≡ fault 1 Value
 unfolding is_blank
 no_level = refl
 
-falls : stim (text (codes "5 ns a 1" ∷ codes "4 ns a 0" ∷ [])) ≡ fault 2 TimeFalls
+falls : stim (text (codes "5 ns a 1" ∷ codes "4 ns a 0" ∷ [])) ≡ fault 2 Falls
 unfolding is_blank
 falls = refl
 

@@ -12,7 +12,6 @@ use Rattle.std.proofs.lemmas.List.Sums.{length-filter, count_by-le-length}
 use Rattle.std.proofs.lemmas.Simd.{map-map}
 use Rattle.std.proofs.lemmas.List.Elements.{All-map, All-from_recursion}
 use Rattle.vital_base.specs.Times.{time_of, number_of, unit_named}
-use Rattle.vital_base.specs.declared.time.TheConstants.{GREATEST_TIME}
 use Rattle.vital_base.specs.declared.time.TimeUnit.{TimeUnit}
 use Rattle.vital_logic.specs.declared.level.Level.{Level}
 use Rattle.vital_stim.specs.Parts.{is_line_end, lines_of, fields_of, is_passed_over}
@@ -20,7 +19,7 @@ use Rattle.vital_stim.specs.Stimuli.{◌>>=◌, Stimulus, port_named, value_name
 use Rattle.vital_stim.specs.declared.fault.StimError.{StimError}
 use Rattle.vital_stim.specs.declared.fault.StimFault.{StimFault}
 use Rattle.vital_stim.specs.declared.fault.StimWhy.{StimWhy}
-use Rattle.vital_stim.specs.declared.fault.StimWhy.TheVariants.{Line, Unit as UnknownUnit, TimeLarge, Value, TimeFalls}
+use Rattle.vital_stim.specs.declared.fault.StimWhy.TheVariants.{Line, Unit as UnknownUnit, Large, Value, Falls}
 use Rattle.vital_stim.specs.declared.stimuli.Stimuli.{Stimuli}
 use Rattle.vital_stim.proofs.NameLemmas.{AreAmong, are_among}
 use Rattle.vital_stim.proofs.Positions.{any-lt}
@@ -43,20 +42,20 @@ answers-if P (Ok found) given h k = at-ok P given found h k
 answers-if P (Err e) given h k = tt
 
 -- ---- times
-in_time-step : (product time : ℕ) (v : Bool) → nat_le product GREATEST_TIME ≡ v → cond v (Some product) None ≡ Some time → time ≤ GREATEST_TIME
-in_time-step product time true e h = let same : product ≡ time = (cc) in subst (λ n. n ≤ GREATEST_TIME) same (leb-true product GREATEST_TIME e)
+in_time-step : (product time : ℕ) (v : Bool) → nat_le product 1_152_921_504_606_846_976 ≡ v → cond v (Some product) None ≡ Some time → time ≤ 1_152_921_504_606_846_976
+in_time-step product time true e h = let same : product ≡ time = (cc) in subst (λ n. n ≤ 1_152_921_504_606_846_976) same (leb-true product 1_152_921_504_606_846_976 e)
 in_time-step product time false e h = absurd (cc)
 
-in_time : (number time : ℕ) (unit : TimeUnit) → time_of number unit ≡ Some time → time ≤ GREATEST_TIME
-in_time number time unit h = in_time-step _ time (nat_le _ GREATEST_TIME) refl h
+in_time : (number time : ℕ) (unit : TimeUnit) → time_of number unit ≡ Some time → time ≤ 1_152_921_504_606_846_976
+in_time number time unit h = in_time-step _ time (nat_le _ 1_152_921_504_606_846_976) refl h
 
 abbrev IsEarly : Stimulus → Type 0
-IsEarly = λ s. s.time ≤ GREATEST_TIME
+IsEarly = λ s. s.time ≤ 1_152_921_504_606_846_976
 
 -- what the four fields say, by what each of them says
 abbrev from_time : List ℕ → Option Level → Option ℕ → Result Stimulus StimWhy
 from_time name level time = do
-  t ← ok_or time TimeLarge
+  t ← ok_or time Large
   value ← ok_or level Value
   Ok (record { time = t; name = name; value = value })
 
@@ -83,10 +82,10 @@ of-fields (digits ∷ letters ∷ port ∷ level ∷ []) = early (number_of digi
 of-fields fields = tt
 
 abbrev Follows : ℕ → Stimulus → Type 0
-Follows latest = λ s. (latest ≤ s.time) × (s.time ≤ GREATEST_TIME)
+Follows latest = λ s. (latest ≤ s.time) × (s.time ≤ 1_152_921_504_606_846_976)
 
 of-next : (latest : ℕ) (fields : List (List ℕ)) → IfOk (stimulus_after latest fields) (Follows latest)
-of-next latest fields = bind-if (Follows latest) (stimulus_of fields) _ (λ s e. cond_both (nat_lt s.time latest) (Err TimeFalls) (Ok s) (λ r. IfOk r (Follows latest)) (λ _. tt) (λ f. (ltb-false _ _ f, at-ok IsEarly (stimulus_of fields) s e (of-fields fields))))
+of-next latest fields = bind-if (Follows latest) (stimulus_of fields) _ (λ s e. cond_both (nat_lt s.time latest) (Err Falls) (Ok s) (λ r. IfOk r (Follows latest)) (λ _. tt) (λ f. (ltb-false _ _ f, at-ok IsEarly (stimulus_of fields) s e (of-fields fields))))
 
 -- the times do not fall, and none is too large
 abbrev Rising : ℕ → List Stimulus → Type 0

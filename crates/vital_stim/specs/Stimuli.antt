@@ -4,7 +4,6 @@ use Rattle.std.specs.List.{position_or_len}
 use Rattle.std.specs.Option.{ok_or}
 use Rattle.std.specs.Str.{bytes_eq}
 use Rattle.vital_base.specs.Times.{number_of, unit_named, time_of}
-use Rattle.vital_base.specs.declared.time.TheConstants.{GREATEST_TIME}
 use Rattle.vital_base.specs.declared.ports.PortBit.{PortBit}
 use Rattle.vital_logic.specs.Levels.{level_of, byte_of}
 use Rattle.vital_logic.specs.declared.level.Level.{Level}
@@ -12,7 +11,7 @@ use Rattle.vital_logic.specs.declared.level.Level.TheVariants.{U}
 use Rattle.vital_stim.specs.Parts.{lines_of, fields_of, is_passed_over}
 use Rattle.vital_stim.specs.PortForm.{is_port, folded}
 use Rattle.vital_stim.specs.declared.fault.StimWhy.{StimWhy}
-use Rattle.vital_stim.specs.declared.fault.StimWhy.TheVariants.{Line, Unit as UnknownUnit, TimeLarge, Value, TimeFalls}
+use Rattle.vital_stim.specs.declared.fault.StimWhy.TheVariants.{Line, Unit as UnknownUnit, Large, Value, Falls}
 use Rattle.vital_stim.specs.declared.fault.StimFault.{StimFault}
 use Rattle.vital_stim.specs.declared.fault.StimError.{StimError}
 use Rattle.vital_stim.specs.declared.fault.StimError.TheVariants.{Fault, NoMemory}
@@ -44,7 +43,7 @@ stimulus_of (digits ∷ letters ∷ port ∷ level ∷ []) = do
   number ← ok_or (number_of digits) Line
   name ← ok_or (port_named port) Line
   unit ← ok_or (unit_named letters) UnknownUnit
-  time ← ok_or (time_of number unit) TimeLarge
+  time ← ok_or (time_of number unit) Large
   value ← ok_or (value_named level) Value
   Ok (record { time = time; name = name; value = value })
 stimulus_of fields = Err Line
@@ -53,7 +52,7 @@ stimulus_of fields = Err Line
 abbrev pub stimulus_after : ℕ → List (List ℕ) → Result Stimulus StimWhy
 stimulus_after latest fields = do
   stimulus ← stimulus_of fields
-  if nat_lt stimulus.time latest then Err TimeFalls else Ok stimulus
+  if nat_lt stimulus.time latest then Err Falls else Ok stimulus
 
 -- A fault of the line with this number.
 abbrev pub on_line : {A : Type 0} → ℕ → Result A StimWhy → Result A StimFault
@@ -100,7 +99,7 @@ with_ports stimuli = record {
 -- A line of stimuli has a port that is there, and a time of at most 2^60 fs.
 pub record Fits (stimuli : Stimuli) (line : StimLine) : Type 0 where
   pub there : line.port < length stimuli.ports
-  pub in_time : line.time ≤ GREATEST_TIME
+  pub in_time : line.time ≤ 1_152_921_504_606_846_976
 
 -- The stimuli of a text, or its first line with a fault and the first test that this line fails.
 abbrev pub stim : List ℕ → Result Stimuli StimFault

@@ -26,7 +26,7 @@ pub fn entry_after<'a>(latest: Time, line: &'a [u8]) -> Result<Entry<'a>, StimWh
 {
     let entry = entry_of(line)?;
     if entry.time < latest {
-        return Err(StimWhy::TimeFalls);
+        return Err(StimWhy::Falls);
     }
     Ok(entry)
 }
@@ -62,7 +62,7 @@ fn from_fields<'a>(
         return Err(StimWhy::Line);
     }
     let unit = TimeUnit::named(letters).ok_or(StimWhy::Unit)?;
-    let time = unit.time(number).ok_or(StimWhy::TimeLarge)?;
+    let time = unit.time(number).ok_or(StimWhy::Large)?;
     let value = value_named(level).ok_or(StimWhy::Value)?;
     Ok(Entry { time, port, value })
 }

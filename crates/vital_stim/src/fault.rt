@@ -13,11 +13,11 @@ pub enum StimWhy {
     /// The second field is none of `fs`, `ps`, `ns`, `us` and `ms`.
     Unit,
     /// The time is above 2^60 fs.
-    TimeLarge,
+    Large,
     /// The fourth field is no level: one of `UX01ZWLH-`, where a letter may be small.
     Value,
     /// The time is below that of an earlier line.
-    TimeFalls,
+    Falls,
 }
 
 /// The first line with a fault.

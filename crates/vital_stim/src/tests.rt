@@ -7,7 +7,7 @@ use vital_logic::to_byte;
 
 /// Texts, and what they say: the ports with their first levels, and `time port level` for each line; or the line and
 /// the test that it fails.
-const ROWS: [(&[u8], &str); 40] = [
+const ROWS: [(&[u8], &str); 47] = [
     (b"", ""),
     (
         b"0 ps a 0\n0 ps b 1\n10 ps a 1\n20 ps b 1\n30 ps a Z\n",
@@ -20,9 +20,9 @@ const ROWS: [(&[u8], &str); 40] = [
     (b"5 ns a", "1 Line"),
     (b"5 ns a 1 1", "1 Line"),
     (b"5 min a 1", "1 Unit"),
-    (b"9999999999999999999 ms a 1", "1 TimeLarge"),
+    (b"9999999999999999999 ms a 1", "1 Large"),
     (b"5 ns a 2", "1 Value"),
-    (b"5 ns a 1\n4 ns a 0", "2 TimeFalls"),
+    (b"5 ns a 1\n4 ns a 0", "2 Falls"),
     // Passed over: comments, blanks and nothing; CR is a blank, and VT is none.
     (b"\n\r\n \t\n# a\n \t#5 ns a 2\r\n5 ns a 2", "6 Value"),
     (
@@ -42,7 +42,18 @@ const ROWS: [(&[u8], &str); 40] = [
         b"1152921504606846976 fs a 1",
         "a:U 1152921504606846976 0 1;",
     ),
-    (b"1152921504606846977 fs a 1", "1 TimeLarge"),
+    (b"1152921504606846977 fs a 1", "1 Large"),
+    // The greatest time of each unit, and one unit more.
+    (b"1152921504606846 ps a 1", "a:U 1152921504606846000 0 1;"),
+    (b"1152921504606847 ps a 1", "1 Large"),
+    (b"1152921504606 ns a 1", "a:U 1152921504606000000 0 1;"),
+    (b"1152921504607 ns a 1", "1 Large"),
+    (
+        b"1152921 ms a 0\n1152921504 us a 1",
+        "a:U 1152921000000000000 0 0;1152921504000000000 0 1;",
+    ),
+    (b"1152921505 us a 1", "1 Large"),
+    (b"1152922 ms a 1", "1 Large"),
     // Units and levels.
     (
         b"1 fs a u\n1 ps a X\n1 ns a w\n1 us a -\n1 ms a l",
@@ -70,10 +81,7 @@ const ROWS: [(&[u8], &str); 40] = [
     (b"1 min _a 2", "1 Line"),
     (b"9999999999999999999 min a 2", "1 Unit"),
     (b"1 ns a 1\n0 ns a 2", "2 Value"),
-    (
-        b"1 ns a 1\n9999999999999999999 ms a 2\n0 ns a 2",
-        "2 TimeLarge",
-    ),
+    (b"1 ns a 1\n9999999999999999999 ms a 2\n0 ns a 2", "2 Large"),
 ];
 
 fn written(alloc: Global, stimuli: &Stimuli) -> Result<String, AllocError> {
