@@ -1,10 +1,12 @@
 -- The lines of a run, of a check and of a refusal, as they are printed.
-use Rattle.std.specs.Prelude.{ℕ, List, [], ◌∷◌, ◌++◌, codes, decimal, Option, Some, None, option_map}
+use Rattle.std.specs.Prelude.{ℕ, ◌==◌, List, [], ◌∷◌, ◌++◌, codes, decimal, Option, Some, None, option_map, if◌then◌else◌}
 use Rattle.std.specs.List.{flat_map}
+use Rattle.vital_base.specs.declared.breach.Clause.{Clause}
 use Rattle.vital_logic.specs.declared.level.Level.{Level}
 use Rattle.vital_logic.specs.Levels.{byte_of}
+use Rattle.vital_report.specs.Fields.{clause_word}
 use Rattle.vital_report.specs.declared.line.Line.{Line}
-use Rattle.vital_report.specs.declared.line.Line.TheVariants.{Version, Init, Event, End, CellRead, RefusedUsage, RefusedLexical, RefusedSyntax, RefusedLimit, RefusedLibrary, RefusedStimulus}
+use Rattle.vital_report.specs.declared.line.Line.TheVariants.{Version, Init, Event, End, CellRead, CellBroken, RefusedUsage, RefusedLexical, RefusedSyntax, RefusedLimit, RefusedLibrary, RefusedStimulus}
 use Rattle.vital_report.specs.declared.line.Position.{Position}
 use Rattle.vital_report.specs.declared.line.UsageWhy.{UsageWhy}
 use Rattle.vital_report.specs.declared.line.UsageWhy.TheVariants.{Command, Key, Twice, Value, Missing}
@@ -30,6 +32,7 @@ pub data Said : Type 0 where
   event : (time delta : ℕ) (name : List ℕ) (value : Level) → Said
   end : (time : ℕ) → Said
   cell_read : (entity : List ℕ) (arch : Option (List ℕ)) → Said
+  cell_broken : (entity : List ℕ) (arch : Option (List ℕ)) (clause : Clause) (at : Spot) → Said
   refused_usage : (word : ℕ) (why : UsageWhy) → Said
   refused_lexical : (why : LexicalWhy) (at : Spot) → Said
   refused_syntax : (at : Spot) → Said
@@ -48,6 +51,7 @@ said (Init name value) = init name.now value
 said (Event time delta name value) = event time delta name.now value
 said (End time) = end time
 said (CellRead entity arch) = cell_read entity.now (option_map (λ name. name.now) arch)
+said (CellBroken entity arch clause at) = cell_broken entity.now (option_map (λ name. name.now) arch) clause (spot at)
 said (RefusedUsage word why) = refused_usage word why
 said (RefusedLexical at why) = refused_lexical why (spot at)
 said (RefusedSyntax at) = refused_syntax (spot at)
@@ -93,6 +97,10 @@ abbrev pub arch_word : Option (List ℕ) → List ℕ
 arch_word (Some name) = name
 arch_word None = codes "-"
 
+-- The level that a cell has where it breaks a clause: the one below the clause's.
+abbrev pub level_word : Clause → List ℕ
+level_word clause = if clause.level == 0 then codes "none" else codes "level0"
+
 -- The fields of a place.
 abbrev pub spot_fields : Spot → List (List ℕ)
 spot_fields at = at.file ∷ decimal at.line ∷ decimal at.column ∷ []
@@ -109,6 +117,8 @@ bytes_of (event time delta name value) =
     line_of (codes "event") (decimal time ∷ decimal delta ∷ name ∷ (byte_of value ∷ []) ∷ [])
 bytes_of (end time) = line_of (codes "end") (decimal time ∷ [])
 bytes_of (cell_read entity arch) = line_of (codes "cell") (entity ∷ arch_word arch ∷ codes "read" ∷ [])
+bytes_of (cell_broken entity arch clause at) =
+    line_of (codes "cell") (entity ∷ arch_word arch ∷ level_word clause ∷ clause_word clause ∷ spot_fields at)
 bytes_of (refused_usage word why) = line_of (codes "refused usage") (decimal word ∷ usage_word why ∷ [])
 bytes_of (refused_lexical why at) = line_of (codes "refused lexical") (spot_fields at ++ lexical_word why ∷ [])
 bytes_of (refused_syntax at) = line_of (codes "refused syntax") (spot_fields at)

@@ -5,11 +5,12 @@
 
 ghost use Rattle.std.specs.Prelude.{◌≡◌, ◌≤◌, ◌++◌, [], ◌∷◌, length, codes, decimal, map, drop, IfSome};
 ghost use Rattle.vital_report.specs.Buffers.{PutsBefore};
-ghost use Rattle.vital_report.specs.Fields.{field_bytes, fields_text};
+ghost use Rattle.vital_report.specs.Fields.{clause_word, field_bytes, fields_text};
 ghost use Rattle.vital_report.specs.Lines.{line_of};
 
 use crate::field::Field;
 use itoa::write_digits;
+use vital_base::Clause;
 use vital_logic::to_byte;
 
 /// How many digits a number has at most.
@@ -58,7 +59,25 @@ fn put_value(buffer: &mut [u8], end: usize, field: Field<'_>) -> Option<usize>
         Field::Text(text) => put_text(buffer, end, text),
         Field::Number(number) => put_number(buffer, end, number),
         Field::Level(level) => put_byte(buffer, end, to_byte(level)),
+        Field::Clause(clause) => put_clause(buffer, end, clause),
     }
+}
+
+fn put_clause(buffer: &mut [u8], end: usize, clause: Clause) -> Option<usize>
+    requires { end ≤ length buffer.old }
+    ensures { PutsBefore (clause_word clause) buffer.old end buffer.new result }
+{
+    let at = put_marked(buffer, end, b'.', clause.number)?;
+    put_marked(buffer, at, b'L', clause.level)
+}
+
+/// Puts a mark, and at once after it a number.
+fn put_marked(buffer: &mut [u8], end: usize, mark: u8, number: u8) -> Option<usize>
+    requires { end ≤ length buffer.old }
+    ensures { PutsBefore (mark ∷ decimal number) buffer.old end buffer.new result }
+{
+    let at = put_number(buffer, end, u64::from(number))?;
+    put_byte(buffer, at, mark)
 }
 
 fn put_text(buffer: &mut [u8], end: usize, text: &[u8]) -> Option<usize>

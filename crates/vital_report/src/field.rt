@@ -1,3 +1,4 @@
+use vital_base::Clause;
 use vital_logic::Level;
 
 /// One field of a line.
@@ -7,6 +8,8 @@ pub(crate) enum Field<'a> {
     Text(&'a [u8]),
     /// A number, in decimal.
     Number(u64),
-    /// A level, as its letter.
+    /// A level of a signal, as its letter.
     Level(Level),
+    /// A clause, as L0.7.
+    Clause(Clause),
 }

@@ -1,7 +1,7 @@
 ghost use Rattle.std.specs.Prelude.{◌≡◌};
 ghost use Rattle.vital_report.specs.Lines.{usage_word, stimulus_word, lexical_word, limit_word, library_word};
 
-use vital_base::{Name, Time};
+use vital_base::{Clause, Name, Time};
 use vital_logic::Level;
 
 /// One line that is printed. It holds its names by reference, so making one takes no memory.
@@ -29,6 +29,14 @@ pub enum Line<'a> {
     CellRead {
         entity: &'a Name,
         arch: Option<&'a Name>,
+    },
+    /// `cell ENTITY ARCH LEVEL CLAUSE FILE LINE COLUMN`: the cell breaks the clause at this place. LEVEL is the level that
+    /// it has: `none` where the clause is one of level 0, else `level0`.
+    CellBroken {
+        entity: &'a Name,
+        arch: Option<&'a Name>,
+        clause: Clause,
+        at: Position<'a>,
     },
     /// `refused usage N WHY`: the word with number N, counted from 1, is at fault.
     RefusedUsage {

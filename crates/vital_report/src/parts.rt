@@ -1,11 +1,11 @@
 ghost use Rattle.std.specs.Prelude.{◌≡◌, ◌++◌, ◌∷◌, [], decimal, map, option_map};
-ghost use Rattle.vital_report.specs.Fields.{field_bytes, listed};
-ghost use Rattle.vital_report.specs.Lines.{said, spot, spot_fields, arch_word, bytes_of, line_of};
+ghost use Rattle.vital_report.specs.Fields.{clause_word, field_bytes, listed};
+ghost use Rattle.vital_report.specs.Lines.{said, spot, spot_fields, arch_word, level_word, bytes_of, line_of};
 
 use crate::field::Field::{self, Level, Number, Text};
-use crate::fields::Fields::{self, Four, One, Three, Two};
+use crate::fields::Fields::{self, Four, One, Seven, Three, Two};
 use crate::line::{Line, Position};
-use vital_base::Name;
+use vital_base::{Clause, Name};
 
 /// The parts of a line: the text that it begins with, and the fields after it.
 #[derive(Clone, Copy, Debug)]
@@ -36,6 +36,12 @@ impl<'a> Parts<'a> {
                 b"cell",
                 Three(text(entity), arch_text(arch), Text(b"read")),
             ),
+            Line::CellBroken {
+                entity,
+                arch,
+                clause,
+                at,
+            } => (b"cell", broken(entity, arch, clause, at)),
             Line::RefusedUsage { word, why } => (
                 b"refused usage",
                 Two(Number(word), Text(why.word())),
@@ -51,6 +57,28 @@ impl<'a> Parts<'a> {
         };
         Parts { start, fields }
     }
+}
+
+/// The fields of a cell that breaks a clause.
+fn broken<'a>(
+    entity: &'a Name,
+    arch: Option<&'a Name>,
+    clause: Clause,
+    at: Position<'a>,
+) -> Fields<'a>
+    ensures { map field_bytes (listed result)
+        ≡ entity.now ∷ arch_word (option_map (λ name. name.now) arch.entry) ∷ level_word clause
+        ∷ clause_word clause ∷ spot_fields (spot at.entry) }
+{
+    Seven(
+        text(entity),
+        arch_text(arch),
+        Text(level_word(clause)),
+        Field::Clause(clause),
+        text(at.file),
+        number(at.line),
+        number(at.column),
+    )
 }
 
 /// The fields of a place.
@@ -81,6 +109,17 @@ fn arch_text<'a>(arch: Option<&'a Name>) -> Field<'a>
     match arch {
         Some(name) => text(name),
         None => Text(b"-"),
+    }
+}
+
+/// The word for the level that a cell has where it breaks this clause.
+fn level_word(clause: Clause) -> &'static [u8]
+    ensures { result.now ≡ level_word clause }
+{
+    if clause.level == 0 {
+        b"none"
+    } else {
+        b"level0"
     }
 }
 

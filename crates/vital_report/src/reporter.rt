@@ -133,6 +133,10 @@ fn write<K: Sink>(buffer: &mut [u8], sink: &mut K, line: &Line<'_>) -> Result<()
         Fields::Four(first, second, third, fourth) => {
             write_fields(buffer, sink, start, &[first, second, third, fourth])
         }
+        Fields::Seven(first, second, third, fourth, fifth, sixth, seventh) => {
+            let fields = [first, second, third, fourth, fifth, sixth, seventh];
+            write_fields(buffer, sink, start, &fields)
+        }
     }
 }
 

@@ -3,7 +3,7 @@ use crate::{
 };
 use std::alloc::{AllocError, Global};
 use std::test::Fail;
-use vital_base::{List, MemSink, Name, Sink, WriteFault};
+use vital_base::{Clause, List, MemSink, Name, Sink, WriteFault};
 use vital_logic::Level;
 
 const USAGE: [(u64, UsageWhy, &str); 5] = [
@@ -43,6 +43,13 @@ const LIBRARY: [(LibraryWhy, &str); 2] = [
         "refused library duplicate f.x 12 3\n",
     ),
     (LibraryWhy::Entity, "refused library entity f.x 12 3\n"),
+];
+
+/// The level and the number of a clause, with the line for it.
+const BROKEN: [(u8, u8, &str); 3] = [
+    (0, 7, "cell nand2 vital none L0.7 f.x 12 3\n"),
+    (1, 3, "cell nand2 vital level0 L1.3 f.x 12 3\n"),
+    (0, 255, "cell nand2 vital none L0.255 f.x 12 3\n"),
 ];
 
 /// Times, delta numbers and values of events, each with its line.
@@ -108,6 +115,37 @@ fn lines_of_cells_are_printed(rt: HostRuntime) -> Result<(), Fail> {
     ] {
         assert!(rt; is_printed(alloc, &Line::CellRead { entity, arch }, text)?);
     }
+    Ok(())
+}
+
+#[test]
+fn lines_of_broken_cells_are_printed(rt: HostRuntime) -> Result<(), Fail> {
+    let alloc = rt.alloc();
+    let (entity, arch) = (&name(alloc, b"nand2")?, &name(alloc, b"vital")?);
+    let file = &name(alloc, b"f.x")?;
+    let (line, column) = (12, 3);
+    let at = Position { file, line, column };
+    for (level, number, text) in BROKEN {
+        let clause = Clause { level, number };
+        let arch = Some(arch);
+        let broken = Line::CellBroken {
+            entity,
+            arch,
+            clause,
+            at,
+        };
+        assert!(rt; is_printed(alloc, &broken, text)?);
+    }
+    let (level, number, arch) = (0, 7, None);
+    let clause = Clause { level, number };
+    let broken = Line::CellBroken {
+        entity,
+        arch,
+        clause,
+        at,
+    };
+    let text = "cell nand2 - none L0.7 f.x 12 3\n";
+    assert!(rt; is_printed(alloc, &broken, text)?);
     Ok(())
 }
 
