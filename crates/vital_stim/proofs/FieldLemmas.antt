@@ -24,7 +24,7 @@ fields_of-after_blanks [] = refl
 fields_of-after_blanks (b ∷ bs) = after_blanks-step b bs (is_blank b) refl (fields_of-after_blanks bs)
 
 -- the first byte is no blank
-abbrev BeginsField : List ℕ → Type 0
+abbrev pub BeginsField : List ℕ → Type 0
 BeginsField [] = Unit {0}
 BeginsField (b ∷ bs) = is_blank b ≡ false
 
@@ -32,7 +32,7 @@ begins_field-step : (b : ℕ) (bs : List ℕ) (v : Bool) → is_blank b ≡ v �
 begins_field-step b bs true e h = h
 begins_field-step b bs false e h = e
 
-begins_field : (line : List ℕ) → BeginsField (after_blanks line)
+pub begins_field : (line : List ℕ) → BeginsField (after_blanks line)
 begins_field [] = tt
 begins_field (b ∷ bs) = begins_field-step b bs (is_blank b) refl (begins_field bs)
 
@@ -77,7 +77,7 @@ begins-some : (b : ℕ) (bs : List ℕ) (v : Bool) → v ≡ false → length (t
 begins-some b bs true e h = absurd (true≢false e)
 begins-some b bs false e h = let one = rw one-add at h in absurd (omega arith)
 
-takes_at : (bs : List ℕ) → BeginsField bs → Takes bs (take (position_or_len is_blank bs) bs) (drop (position_or_len is_blank bs) bs)
+pub takes_at : (bs : List ℕ) → BeginsField bs → Takes bs (take (position_or_len is_blank bs) bs) (drop (position_or_len is_blank bs) bs)
 takes_at [] h = record { some = λ k. absurd (true≢false k); none = λ k. (refl, refl) }
 takes_at (b ∷ bs) h =
     let parts = parts_at (b ∷ bs) in

@@ -1,5 +1,7 @@
 mod Rows
 pub mod FieldLemmas
+pub mod NumberLemmas
+pub mod EntryLemmas
 pub mod Positions
 pub mod PortLemmas
 pub mod NameLemmas

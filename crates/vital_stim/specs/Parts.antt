@@ -1,6 +1,6 @@
 -- The parts of a stimulus file: its lines, and the fields of a line.
-use Rattle.std.specs.Prelude.{ℕ, Bool, ◌==◌, ◌||◌, nat_lt, true, List, [], ◌∷◌, length, filter, if◌then◌else◌}
-use Rattle.std.specs.List.{slice_split}
+use Rattle.std.specs.Prelude.{ℕ, Bool, ◌==◌, ◌||◌, nat_lt, true, List, [], ◌∷◌, length, filter, drop, if◌then◌else◌}
+use Rattle.std.specs.List.{slice_split, before_first, position_or_len}
 
 -- LF ends a line.
 abbrev pub is_line_end : ℕ → Bool
@@ -17,6 +17,14 @@ lines_of text = slice_split is_line_end text
 -- The fields of a line: what stands between its blanks and is not empty.
 abbrev pub fields_of : List ℕ → List (List ℕ)
 fields_of line = filter (λ piece. nat_lt 0 (length piece)) (slice_split is_blank line)
+
+-- What stands before the first blank.
+abbrev pub field_of : List ℕ → List ℕ
+field_of line = before_first is_blank line
+
+-- The first blank and what follows it.
+abbrev pub after_field : List ℕ → List ℕ
+after_field line = drop (position_or_len is_blank line) line
 
 -- A line without the blanks that it begins with.
 abbrev pub after_blanks : List ℕ → List ℕ

@@ -1,14 +1,16 @@
 //! What one line says.
 
-ghost use Rattle.std.specs.Prelude.{◌≡◌, [], ◌∷◌};
+ghost use Rattle.std.specs.Prelude.{◌≡◌, [], ◌∷◌, ℕ, List, Some};
+ghost use Rattle.vital_base.specs.Times.{number_of};
 ghost use Rattle.vital_stim.specs.Stimuli.{value_named, stimulus_of, stimulus_after};
 ghost use Rattle.vital_stim.specs.Entry.{stimulus_result};
 ghost use Rattle.vital_stim.specs.Parts.{fields_of};
 
+use crate::digits::number_at;
 use crate::fault::StimWhy;
-use crate::fields::Fields;
+use crate::fields::{Fields, after_blanks};
 use crate::port_form::is_port;
-use vital_base::{Time, TimeUnit, read_number};
+use vital_base::{Time, TimeUnit};
 use vital_logic::{Level, from_byte};
 
 /// What one line says: from a time on, a port has a value.
@@ -34,30 +36,35 @@ pub fn entry_after<'a>(latest: Time, line: &'a [u8]) -> Result<Entry<'a>, StimWh
 fn entry_of<'a>(line: &'a [u8]) -> Result<Entry<'a>, StimWhy>
     ensures { stimulus_result result ≡ stimulus_of (fields_of line.now) }
 {
-    let mut fields = Fields::new(line);
-    match (
-        fields.next(),
-        fields.next(),
-        fields.next(),
-        fields.next(),
-        fields.next(),
-    ) {
-        (Some(digits), Some(letters), Some(port), Some(level), None) => {
-            from_fields(digits, letters, port, level)
+    match number_at(after_blanks(line)) {
+        Some((number, rest)) => after_number(number, rest),
+        None => Err(StimWhy::Line),
+    }
+}
+
+/// What a line says that begins with digits for this number, and goes on with the rest.
+fn after_number<'a>(number: u64, rest: &'a [u8]) -> Result<Entry<'a>, StimWhy>
+    ensures { (digits : List ℕ) → number_of digits ≡ Some number
+        → stimulus_result result ≡ stimulus_of (digits ∷ fields_of rest.now) }
+{
+    let mut fields = Fields::new(rest);
+    match (fields.next(), fields.next(), fields.next(), fields.next()) {
+        (Some(letters), Some(port), Some(level), None) => {
+            from_fields(number, letters, port, level)
         }
         _ => Err(StimWhy::Line),
     }
 }
 
 fn from_fields<'a>(
-    digits: &[u8],
+    number: u64,
     letters: &[u8],
     port: &'a [u8],
     level: &[u8],
 ) -> Result<Entry<'a>, StimWhy>
-    ensures { stimulus_result result ≡ stimulus_of (digits.now ∷ letters.now ∷ port.now ∷ level.now ∷ []) }
+    ensures { (digits : List ℕ) → number_of digits ≡ Some number
+        → stimulus_result result ≡ stimulus_of (digits ∷ letters.now ∷ port.now ∷ level.now ∷ []) }
 {
-    let number = read_number(digits).ok_or(StimWhy::Line)?;
     if !is_port(port) {
         return Err(StimWhy::Line);
     }

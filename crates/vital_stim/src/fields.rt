@@ -8,7 +8,7 @@ use std::marker::Model;
 
 /// Whether a byte parts fields: a space, a tab or a CR.
 #[tactic(auto, unfolding(crate::specs::Parts::is_blank))]
-fn is_blank(byte: u8) -> bool
+pub fn is_blank(byte: u8) -> bool
     ensures { result ≡ is_blank byte }
 {
     matches!(byte, b' ' | b'\t' | b'\r')
@@ -61,7 +61,7 @@ impl<'a> Iterator for Fields<'a> {
 }
 
 /// The line without the blanks that it begins with.
-fn after_blanks(line: &[u8]) -> &[u8]
+pub fn after_blanks(line: &[u8]) -> &[u8]
     ensures { result.now ≡ after_blanks line.now }
 {
     let mut rest = line;

@@ -2,6 +2,7 @@
 #![tactic(auto)]
 
 mod builder;
+mod digits;
 mod entry;
 mod fault;
 mod fields;
