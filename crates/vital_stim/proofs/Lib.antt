@@ -2,6 +2,7 @@ mod Rows
 pub mod FieldLemmas
 pub mod NumberLemmas
 pub mod EntryLemmas
+pub mod RunLemmas
 pub mod Positions
 pub mod PortLemmas
 pub mod NameLemmas

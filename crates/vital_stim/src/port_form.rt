@@ -1,9 +1,9 @@
 //! How a stimulus names a port.
 
 ghost use Rattle.std.specs.Prelude.{◌≡◌, position};
-ghost use Rattle.std.specs.Char.{is_ascii_alphanumeric, is_ascii_digit};
-ghost use Rattle.std.specs.List.{list_all};
-ghost use Rattle.vital_stim.specs.PortForm.{is_run, begins_with_letter, is_identifier, is_plain_decimal, is_opening, is_index, is_port};
+ghost use Rattle.std.specs.Char.{is_ascii_digit};
+ghost use Rattle.std.specs.List.{list_all, slice_split};
+ghost use Rattle.vital_stim.specs.PortForm.{is_underscore, is_run, begins_with_letter, is_identifier, is_plain_decimal, is_opening, is_index, is_port};
 
 /// Whether these bytes name a port: a basic identifier (IEEE 1076-1993, 13.3.1), alone or followed at once by an index
 /// in parentheses. A reserved word is an identifier here.
@@ -26,7 +26,7 @@ fn first_opening(bytes: &[u8]) -> Option<usize>
 fn is_identifier(bytes: &[u8]) -> bool
     ensures { result ≡ is_identifier bytes.now }
 {
-    begins_with_letter(bytes) && bytes.split(|byte| *byte == b'_').all(|run| is_run(run))
+    begins_with_letter(bytes) && are_runs(bytes)
 }
 
 fn begins_with_letter(bytes: &[u8]) -> bool
@@ -38,17 +38,21 @@ fn begins_with_letter(bytes: &[u8]) -> bool
     }
 }
 
-/// Whether there are letters and digits alone, and one at least.
-fn is_run(bytes: &[u8]) -> bool
-    ensures { result ≡ is_run bytes.now }
+/// Whether there are letters and digits alone, in runs with one underscore between each two of them.
+fn are_runs(bytes: &[u8]) -> bool
+    ensures { result ≡ list_all is_run (slice_split is_underscore bytes.now) }
 {
-    !bytes.is_empty() && all_alphanumeric(bytes)
-}
-
-fn all_alphanumeric(bytes: &[u8]) -> bool
-    ensures { result ≡ list_all is_ascii_alphanumeric bytes.now }
-{
-    bytes.iter().all(|byte| byte.is_ascii_alphanumeric())
+    let mut in_run = false;
+    for byte in bytes {
+        if byte.is_ascii_alphanumeric() {
+            in_run = true;
+        } else if in_run && *byte == b'_' {
+            in_run = false;
+        } else {
+            return false;
+        }
+    }
+    in_run
 }
 
 /// Whether these bytes are a plain decimal and the parenthesis that closes it.

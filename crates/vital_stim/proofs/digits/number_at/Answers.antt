@@ -1,4 +1,4 @@
-use Rattle.std.proofs.Common.{◌≡◌, ◌<◌, ◌+◌, ◌*◌, get_or, sym, ◌∙◌, arith, inl, inr}
+use Rattle.std.proofs.Common.{◌≡◌, ◌<◌, get_or, sym, ◌∙◌, arith, inl, inr}
 use Rattle.vital_stim.proofs.NumberLemmas.{number_from, at_end, room, stops, ends_at, is_none, none_at, some_at, is_digit_small}
 use Rattle.vital_stim.proofs.digits.number_at.Goals as goal
 use Rattle.vital_stim.proofs.digits.number_at.Goals.{then-not-is_ascii_digit-via-then-not-is_ascii_digit, then-not-is_ascii_digit-via-else-not-is_ascii_digit+then-count-eq-MOST_DIGITS, in_default, in-len1-up+then-is_blank}
