@@ -18,7 +18,7 @@ pub use expr::{
     Product, Range, Reference, Relation, Relational, Sign, Suffix, Sum,
 };
 pub use identifier::{Identifier, IdentifierName};
-pub use laws::walked_in_preorder;
+pub use laws::{folded_upwards, walked_in_preorder};
 pub use shared::Shared;
 pub use stmt::{
     Block, Branch, Conc, If, Instance, Process, SignalAssignment, Stmt, VariableAssignment,
