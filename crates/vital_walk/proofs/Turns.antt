@@ -57,9 +57,8 @@ turned taken new v us vs all push next before =
     ∙ before
 
 -- before the first turn all nodes are those of the parts
-pub begun : (taken waiting none parts to : List Node') (us : List Node) → taken ≡ [] → waiting ≡ [] → none ≡ [] → map seen parts ≡ map seen none ++ us → to ≡ waiting ++ reverse parts → map seen taken ++ nodes_of_all (ahead to) ≡ nodes_of_all us
-begun taken waiting none parts to us no_taken no_waiting no_parts are put =
+pub begun : (taken waiting parts to : List Node') → taken ≡ [] → waiting ≡ [] → to ≡ waiting ++ reverse parts → map seen taken ++ nodes_of_all (ahead to) ≡ nodes_of_all (map seen parts)
+begun taken waiting parts to no_taken no_waiting put =
     ap (λ ns. map seen ns ++ nodes_of_all (ahead to)) no_taken
     ∙ ap (λ ns. nodes_of_all (ahead ns)) (put ∙ ap (λ ns. ns ++ reverse parts) no_waiting)
     ∙ ap nodes_of_all (ahead-put [] parts ∙ append-nil (map seen parts))
-    ∙ ap nodes_of_all (are ∙ ap (λ ns. map seen ns ++ us) no_parts)

@@ -1,4 +1,5 @@
-//! Access to the nodes of VHDL units: each part by one name, and all nodes of a unit in one list.
+//! Access to the nodes of VHDL units: each part by one name, all nodes of a unit in one list, and what is made of a node
+//! from its parts upwards.
 #![tactic(auto)]
 
 mod concurrent;
@@ -13,6 +14,7 @@ mod put;
 mod statement_parts;
 mod subtype;
 mod unit_parts;
+mod upward;
 mod walk;
 
 pub use concurrent::call;
@@ -22,4 +24,5 @@ pub use name::{identifier_of, last_identifier, plain_identifier};
 pub use node::Node;
 pub use place::HasPlace;
 pub use subtype::{LiteralBounds, literal_bounds, literal_integer};
-pub use walk::nodes;
+pub use upward::{UpwardRule, fold_up};
+pub use walk::{nodes, nodes_of};

@@ -1,7 +1,7 @@
-//! All nodes of a unit.
+//! All nodes of a unit, and of a node.
 
 ghost use Rattle.std.specs.Prelude.{◌≡◌, [], ◌++◌, map, reverse, IfOk, OnOk};
-ghost use Rattle.vital_nodes.specs.Walk.{nodes_of_unit};
+ghost use Rattle.vital_nodes.specs.Walk.{nodes_of, nodes_of_all, nodes_of_unit};
 ghost use Rattle.vital_walk.specs.Seen.{seen};
 
 use crate::node::Node;
@@ -20,14 +20,11 @@ fn put_reversed<'a>(to: &mut Vec<Node<'a>>, from: &mut Vec<Node<'a>>) -> Result<
     Ok(())
 }
 
-/// All nodes of a unit in preorder: a node stands before what it holds, and what it holds in the order of the text. What
-/// identifiers that are declared together share is there once, behind the last of them.
-pub fn nodes<'a>(alloc: Global, unit: &'a Unit) -> Result<Vec<Node<'a>>, AllocError>
-    ensures { IfOk result (λ nodes. map seen nodes.items ≡ nodes_of_unit unit.now) }
+/// The nodes of parts that stand one behind another, in preorder.
+fn walked<'a>(alloc: Global, mut parts: Vec<Node<'a>>) -> Result<Vec<Node<'a>>, AllocError>
+    ensures { IfOk result (λ nodes. map seen nodes.items ≡ nodes_of_all (map seen parts.entry.items)) }
 {
     walked_in_preorder();
-    let mut parts = Vec::new(alloc);
-    put_parts_of_unit(&mut parts, unit)?;
     // Those that are still to come, the next one last.
     let mut waiting = Vec::new(alloc);
     put_reversed(&mut waiting, &mut parts)?;
@@ -38,4 +35,23 @@ pub fn nodes<'a>(alloc: Global, unit: &'a Unit) -> Result<Vec<Node<'a>>, AllocEr
         put_reversed(&mut waiting, &mut parts)?;
     }
     Ok(nodes)
+}
+
+/// All nodes of a unit in preorder: a node stands before what it holds, and what it holds in the order of the text. What
+/// identifiers that are declared together share is there once, behind the last of them.
+pub fn nodes<'a>(alloc: Global, unit: &'a Unit) -> Result<Vec<Node<'a>>, AllocError>
+    ensures { IfOk result (λ nodes. map seen nodes.items ≡ nodes_of_unit unit.now) }
+{
+    let mut parts = Vec::new(alloc);
+    put_parts_of_unit(&mut parts, unit)?;
+    walked(alloc, parts)
+}
+
+/// A node and all that it holds, in preorder.
+pub fn nodes_of<'a>(alloc: Global, node: Node<'a>) -> Result<Vec<Node<'a>>, AllocError>
+    ensures { IfOk result (λ nodes. map seen nodes.items ≡ nodes_of (seen node.entry)) }
+{
+    let mut parts = Vec::new(alloc);
+    parts.push(node)?;
+    walked(alloc, parts)
 }

@@ -1,11 +1,11 @@
 use Rattle.std.proofs.Common.{◌≡◌, ◌++◌, [], length, map, reverse}
-use Rattle.vital_nodes.specs.Walk.{nodes_of_all, nodes_of_unit}
+use Rattle.vital_nodes.specs.Walk.{nodes_of_all}
 use Rattle.vital_walk.specs.Seen.{seen}
-use Rattle.vital_walk.proofs.walk.nodes.Given as goal
+use Rattle.vital_walk.proofs.walk.walked.Given as goal
 
 abbrev pub invariant-loop-node : goal.invariant-loop-node
 invariant-loop-node l = record {
-  nodes : map seen l.nodes.items ++ nodes_of_all (reverse (map seen l.waiting.items)) ≡ nodes_of_unit l.unit;
+  nodes : map seen l.nodes.items ++ nodes_of_all (reverse (map seen l.waiting.items)) ≡ nodes_of_all (map seen l.fn.parts.items);
   parts : l.parts.items ≡ [];
 }
 

@@ -1,13 +1,13 @@
 use Rattle.std.proofs.Common.{◌++◌, map, ap, ◌∙◌}
-use Rattle.vital_nodes.specs.Nodes.{parts_of, parts_of_unit}
+use Rattle.vital_nodes.specs.Nodes.{parts_of}
 use Rattle.vital_walk.specs.Seen.{seen}
 use Rattle.vital_walk.proofs.Turns.{ahead-taken, begun, fewer, turned}
-use Rattle.vital_walk.proofs.walk.nodes.Goals as goal
+use Rattle.vital_walk.proofs.walk.walked.Goals as goal
 
 pub loop-node-init : goal.loop-node-init
 loop-node-init c = record {
-  nodes = begun c.new-nodes.result.items c.new-waiting.result.items c.new-parts.result.items c.put_parts_of_unit.new.nodes.items c.put_reversed.new.to.items (parts_of_unit c.args.unit.now)
-      c.new-nodes.ensures.items c.new-waiting.ensures.items c.new-parts.ensures.items c.in_ok-put_parts_of_unit.ensures c.in_ok-put_reversed.ensures.put;
+  nodes = begun c.new-nodes.result.items c.new-waiting.result.items c.args.parts.items c.put_reversed.new.to.items
+      c.new-nodes.ensures.items c.new-waiting.ensures.items c.in_ok-put_reversed.ensures.put;
   parts = c.in_ok-put_reversed.ensures.emptied;
 }
 
