@@ -17,7 +17,6 @@ use Rattle.vital_nodes.specs.declared.unit.Unit.TheVariants as variant
 use Rattle.vital_nodes.specs.declared.unit.Units.{Units}
 use Rattle.vital_library.specs.declared.entry.Entry.{Entry}
 use Rattle.vital_library.specs.declared.error.LibraryError.{LibraryError}
-use Rattle.vital_library.specs.declared.error.LibraryError.TheVariants as error
 use Rattle.vital_library.specs.declared.fault.Fault.{Fault}
 use Rattle.vital_library.specs.declared.fault.FaultKind.{FaultKind}
 use Rattle.vital_library.specs.declared.fault.FaultKind.TheVariants.{Duplicate, NoEntity}
@@ -27,10 +26,9 @@ use Rattle.vital_library.specs.Entries.{is_arch_of, positions_of_archs, entities
 use Rattle.vital_library.specs.Faults.{faults, least_of}
 use Rattle.vital_library.specs.Gathered.{refusal, judged, limited, gathered, GivesLibrary}
 use Rattle.vital_library.specs.Kept.{IsLibrary}
-use Rattle.vital_library.specs.Limits.{IsPastLimit}
 use Rattle.vital_library.specs.Numbers.{is_named, number_named, number_of}
 use Rattle.vital_library.specs.Positions.{unit_at, entity_at, arch_at, role_at, seen, numbered, units_in}
-use Rattle.vital_library.specs.Units.{units_of, place_of, as_entity, as_arch, entities_among, archs_among, entities, archs_of, archs_of_entity, roles}
+use Rattle.vital_library.specs.Units.{units_of, as_entity, as_arch, entities_among, archs_among, entities, archs_of, archs_of_entity, roles}
 use Rattle.vital_library.proofs.NumberLemmas.{Numbers}
 use Rattle.vital_library.proofs.RoleLemmas.{roles-stand}
 use Rattle.vital_library.proofs.EntryLemmas.{map-same}
@@ -43,17 +41,6 @@ abbrev units-in : Placed → List Unit'
 units-in us = map (λ u. u.1) us
 
 -- ---- outcomes
-past-extra : (files : List Units) (place : Place) (extra : Option Unit') → option_map place_of extra ≡ Some place → limited files extra ≡ Err (error.TooManyUnits place)
-past-extra files place None h = absurd (cc)
-past-extra files place (Some w) h =
-    let same : place_of w ≡ place = (cc) in
-    ap (λ p. Err (error.TooManyUnits p)) same
-
-pub gives-past : (files : List Units) (e : LibraryError) → IsPastLimit e (units_of files) → GivesLibrary (Err e) (gathered files)
-gives-past files (error.TooManyUnits place) h = past-extra files place (slice_get (units_of files) 4096) h
-gives-past files (error.Duplicate place) h = absurd h
-gives-past files (error.NoEntity place) h = absurd h
-gives-past files error.NoMemory h = tt
 
 gathered-few : (files : List Units) → length (units_of files) ≤ 4096 → gathered files ≡ judged files (least_of (faults (units_of files)))
 gathered-few files few = ap (limited files) (slice_get_past (units_of files) 4096 few)

@@ -13,7 +13,8 @@ use Rattle.vital_library.specs.declared.error.LibraryError.TheVariants as error
 use Rattle.vital_library.specs.Limits.{IsPastLimit}
 use Rattle.vital_library.specs.declared.unit_at.UnitAt.{UnitAt}
 use Rattle.vital_library.specs.Positions.{numbered_from, numbered, seen, units_in}
-use Rattle.vital_library.specs.Units.{place_of, units_of}
+use Rattle.vital_nodes.specs.Places.{place_of_unit}
+use Rattle.vital_library.specs.Units.{units_of}
 use Rattle.vital_library.proofs.NumberedLemmas.{seen-units, length-numbered_from}
 
 get-within : {A B : Type 0} (f : A → B) (y : B) (xs ys : List A) (n : ℕ) → option_map f (slice_get xs n) ≡ Some y → option_map f (slice_get (xs ++ ys) n) ≡ Some y
@@ -23,7 +24,7 @@ get-within f y (x ∷ xs) ys (suc n) h = get-within f y xs ys n h
 
 -- a refusal stands for more units
 pub past-more : (e : LibraryError) (xs ys : List Unit') → IsPastLimit e xs → IsPastLimit e (xs ++ ys)
-past-more (error.TooManyUnits place) xs ys h = get-within place_of place xs ys 4096 h
+past-more (error.TooManyUnits place) xs ys h = get-within place_of_unit place xs ys 4096 h
 past-more (error.Duplicate place) xs ys h = absurd h
 past-more (error.NoEntity place) xs ys h = absurd h
 past-more error.NoMemory xs ys h = tt

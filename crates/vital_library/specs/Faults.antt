@@ -6,9 +6,10 @@ use Rattle.vital_base.specs.declared.place.Place.{Place}
 use Rattle.vital_nodes.specs.declared.unit.Arch.{Arch}
 use Rattle.vital_nodes.specs.declared.unit.Unit.{Unit as Unit'}
 use Rattle.vital_nodes.specs.declared.unit.Unit.TheVariants as unit
+use Rattle.vital_nodes.specs.Places.{identifier_of_unit}
 use Rattle.vital_library.specs.declared.fault.Fault.{Fault}
 use Rattle.vital_library.specs.declared.fault.FaultKind.TheVariants.{Duplicate, NoEntity}
-use Rattle.vital_library.specs.Units.{identifier_of, entities_among, archs_among}
+use Rattle.vital_library.specs.Units.{entities_among, archs_among}
 
 -- Two units have one name in one space of names. Entities, packages and configurations share a space; the architectures of
 -- each entity have one of their own (IEEE 1076-1993, 11.1).
@@ -16,7 +17,7 @@ abbrev pub shares_name : Unit' → Unit' → Bool
 shares_name (unit.Arch v) (unit.Arch w) = bytes_eq v.entity.name w.entity.name && bytes_eq v.identifier.name w.identifier.name
 shares_name (unit.Arch v) w = false
 shares_name v (unit.Arch w) = false
-shares_name v w = bytes_eq (identifier_of v).name (identifier_of w).name
+shares_name v w = bytes_eq (identifier_of_unit v).name (identifier_of_unit w).name
 
 -- Those of the units that share a name with an earlier one, where those seen stand before them all.
 abbrev pub duplicates_after : List Unit' → List Unit' → List Unit'
@@ -39,7 +40,7 @@ without_entity units = filter (λ arch. not (has_entity units arch.entity.name))
 
 -- A duplicate stands at its identifier, and a missing entity where an architecture names it.
 abbrev pub duplicate : Unit' → Fault
-duplicate w = record { kind = Duplicate; place = (identifier_of w).place }
+duplicate w = record { kind = Duplicate; place = (identifier_of_unit w).place }
 
 abbrev pub no_entity : Arch → Fault
 no_entity arch = record { kind = NoEntity; place = arch.entity.place }

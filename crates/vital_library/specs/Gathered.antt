@@ -4,12 +4,13 @@ use Rattle.std.specs.List.{slice_get}
 use Rattle.vital_base.specs.declared.place.Place.{Place}
 use Rattle.vital_nodes.specs.declared.unit.Unit.{Unit as Unit'}
 use Rattle.vital_nodes.specs.declared.unit.Units.{Units}
+use Rattle.vital_nodes.specs.Places.{place_of_unit}
 use Rattle.vital_library.specs.declared.error.LibraryError.{LibraryError}
 use Rattle.vital_library.specs.declared.error.LibraryError.TheVariants as error
 use Rattle.vital_library.specs.declared.fault.Fault.{Fault}
 use Rattle.vital_library.specs.declared.fault.FaultKind.{FaultKind}
 use Rattle.vital_library.specs.declared.fault.FaultKind.TheVariants.{Duplicate, NoEntity}
-use Rattle.vital_library.specs.Units.{units_of, place_of}
+use Rattle.vital_library.specs.Units.{units_of}
 use Rattle.vital_library.specs.Faults.{faults, least_of}
 
 -- How files with a fault of a kind at a place are refused.
@@ -25,7 +26,7 @@ judged files (Some fault) = Err (refusal fault.kind fault.place)
 -- The first unit past the limit refuses the files before any fault is looked for.
 abbrev pub limited : List Units → Option Unit' → Result (List Units) LibraryError
 limited files None = judged files (least_of (faults (units_of files)))
-limited files (Some extra) = Err (error.TooManyUnits (place_of extra))
+limited files (Some extra) = Err (error.TooManyUnits (place_of_unit extra))
 
 -- What comes of files.
 abbrev pub gathered : List Units → Result (List Units) LibraryError

@@ -9,8 +9,9 @@ use Rattle.std.specs.declared.hash.FoldHasher.{FoldHasher}
 use Rattle.vital_nodes.specs.declared.unit.Arch.{Arch}
 use Rattle.vital_nodes.specs.declared.unit.Unit.{Unit as Unit'}
 use Rattle.vital_nodes.specs.declared.unit.Unit.TheVariants as unit
+use Rattle.vital_nodes.specs.Places.{identifier_of_unit}
 use Rattle.vital_library.specs.declared.names.DeclaredNames.{DeclaredNames}
-use Rattle.vital_library.specs.Units.{identifier_of, archs_among}
+use Rattle.vital_library.specs.Units.{archs_among}
 
 -- A set has a name.
 abbrev pub has_name : HashSet (Bor (List ℕ)) (BuildHasherDefault FoldHasher) → List ℕ → Bool
@@ -23,7 +24,7 @@ has_names names entity arch = list_any (λ key. bytes_eq entity key.0.now && byt
 -- The name of a unit was declared in its space.
 abbrev pub is_declared : DeclaredNames → Unit' → Bool
 is_declared declared (unit.Arch a) = has_names declared.archs a.entity.name a.identifier.name
-is_declared declared w = has_name declared.names (identifier_of w).name
+is_declared declared w = has_name declared.names (identifier_of_unit w).name
 
 -- The architectures among units of entities whose names a set lacks.
 abbrev pub without_name : HashSet (Bor (List ℕ)) (BuildHasherDefault FoldHasher) → List Unit' → List Arch

@@ -3,8 +3,6 @@ use Rattle.std.specs.Prelude.{ℕ, List, [], Option, Some, None, filter, map}
 use Rattle.std.specs.List.{flat_map, filter_map, slice_get}
 use Rattle.std.specs.Option.{option_map_or}
 use Rattle.std.specs.Str.{bytes_eq}
-use Rattle.vital_base.specs.declared.place.Place.{Place}
-use Rattle.vital_nodes.specs.declared.identifier.Identifier.{Identifier}
 use Rattle.vital_nodes.specs.declared.unit.Arch.{Arch}
 use Rattle.vital_nodes.specs.declared.unit.Entity.{Entity}
 use Rattle.vital_nodes.specs.declared.unit.Role.{Role}
@@ -15,20 +13,6 @@ use Rattle.vital_nodes.specs.declared.unit.Units.{Units}
 -- All units, in the order of the files, and in each file in its order.
 abbrev pub units_of : List Units → List Unit'
 units_of files = flat_map (λ file. file.units) files
-
--- Where a unit begins.
-abbrev pub place_of : Unit' → Place
-place_of (unit.Entity e) = e.place
-place_of (unit.Arch a) = a.place
-place_of (unit.Pack p) = p.place
-place_of (unit.Config c) = c.place
-
--- The identifier that a unit declares.
-abbrev pub identifier_of : Unit' → Identifier
-identifier_of (unit.Entity e) = e.identifier
-identifier_of (unit.Arch a) = a.identifier
-identifier_of (unit.Pack p) = p.identifier
-identifier_of (unit.Config c) = c.identifier
 
 abbrev pub as_entity : Unit' → Option Entity
 as_entity (unit.Entity e) = Some e

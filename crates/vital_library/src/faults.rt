@@ -6,11 +6,12 @@ ghost use Rattle.vital_library.specs.Names.{has_name, without_name};
 ghost use Rattle.vital_library.specs.Positions.{units_in};
 
 use crate::fault::{Fault, FaultKind, sooner};
-use crate::names::{DeclaredNames, identifier_of, put_name};
+use crate::names::{DeclaredNames, put_name};
 use crate::unit_at::UnitAt;
 use std::alloc::{AllocError, Global};
 use std::collections::HashSet;
 use vital_nodes::{Arch, Unit};
+use vital_walk::HasIdentifier;
 
 /// The fault of units that counts, if there is one.
 pub fn least_fault<'a>(alloc: Global, units: &'a [UnitAt<'a>]) -> Result<Option<Fault>, AllocError>
@@ -41,7 +42,7 @@ fn duplicate(unit: &Unit) -> Fault
 {
     Fault {
         kind: FaultKind::Duplicate,
-        place: identifier_of(unit).place,
+        place: unit.identifier().place,
     }
 }
 

@@ -5,11 +5,11 @@ ghost use Rattle.std.specs.Str.{bytes_eq};
 ghost use Rattle.vital_nodes.specs.declared.unit.Unit.{Unit as Unit'};
 ghost use Rattle.vital_library.specs.Faults.{shares_name};
 ghost use Rattle.vital_library.specs.Names.{has_name, has_names, is_declared};
-ghost use Rattle.vital_library.specs.Units.{identifier_of};
 
 use std::alloc::{AllocError, Global};
 use std::collections::HashSet;
-use vital_nodes::{Identifier, Unit};
+use vital_nodes::Unit;
+use vital_walk::HasIdentifier;
 
 /// Names that were declared, borrowed from the units.
 #[derive(Drop)]
@@ -42,20 +42,8 @@ impl<'a> DeclaredNames<'a> {
                 arch.entity.name.as_slice(),
                 arch.identifier.name.as_slice(),
             ),
-            other => put_name(&mut self.names, identifier_of(other).name.as_slice()),
+            other => put_name(&mut self.names, other.identifier().name.as_slice()),
         }
-    }
-}
-
-/// The identifier that a unit declares.
-pub fn identifier_of(unit: &Unit) -> &Identifier
-    ensures { result.now ≡ identifier_of unit.now }
-{
-    match unit {
-        Unit::Entity(entity) => &entity.identifier,
-        Unit::Arch(arch) => &arch.identifier,
-        Unit::Pack(pack) => &pack.identifier,
-        Unit::Config(config) => &config.identifier,
     }
 }
 

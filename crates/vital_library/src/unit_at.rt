@@ -3,31 +3,19 @@
 ghost use Rattle.std.specs.Prelude.{◌≡◌, ◌≤◌, ◌++◌, length, map, IfOk, OnOk};
 ghost use Rattle.vital_library.specs.Limits.{IsLimited};
 ghost use Rattle.vital_library.specs.Positions.{numbered, numbered_from, seen, units_in};
-ghost use Rattle.vital_library.specs.Units.{place_of, units_of};
+ghost use Rattle.vital_library.specs.Units.{units_of};
 
 use crate::error::{LibraryError, MOST_UNITS};
 use crate::position::Position;
 use std::alloc::Global;
-use vital_base::Place;
 use vital_nodes::{Unit, Units};
+use vital_walk::HasPlace;
 
 /// A unit and where it stands.
 #[derive(Clone, Copy)]
 pub struct UnitAt<'a> {
     pub position: Position,
     pub unit: &'a Unit,
-}
-
-/// Where a unit begins.
-pub fn place_of(unit: &Unit) -> Place
-    ensures { result ≡ place_of unit.now }
-{
-    match unit {
-        Unit::Entity(entity) => entity.place,
-        Unit::Arch(arch) => arch.place,
-        Unit::Pack(pack) => pack.place,
-        Unit::Config(config) => config.place,
-    }
 }
 
 /// The units of files, unless there are too many.
@@ -55,7 +43,7 @@ fn put_units<'a>(
     for (number, unit) in units.iter().enumerate() {
         if all.len() == MOST_UNITS as usize {
             return Err(LibraryError::TooManyUnits {
-                place: place_of(unit),
+                place: unit.place(),
             });
         }
         let position = Position {
