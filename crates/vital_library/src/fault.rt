@@ -1,7 +1,7 @@
 //! A fault of a library.
 
 ghost use Rattle.std.specs.Prelude.{◌≡◌};
-ghost use Rattle.vital_library.specs.Faults.{is_before, sooner};
+ghost use Rattle.vital_library.specs.Faults.{sooner};
 ghost use Rattle.vital_library.specs.Gathered.{refusal};
 
 use crate::error::LibraryError;
