@@ -1,7 +1,7 @@
 //! Lists of nodes that grow at their end.
 
 ghost use Rattle.std.specs.Prelude.{◌≡◌, ◌∷◌, [], ◌++◌, map, OnOk};
-ghost use Rattle.vital_nodes.specs.Nodes.{Node as Node', Expression, expression_if_there};
+ghost use Rattle.vital_nodes.specs.Nodes.{Expression, expression_if_there};
 ghost use Rattle.vital_walk.specs.Seen.{seen};
 
 use crate::node::{Node, OneKind};
