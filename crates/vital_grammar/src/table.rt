@@ -15,7 +15,7 @@ pub fn vhdl_rules(alloc: Global) -> Result<Rules, AllocError>
     masks_decide();
     ranks_derive();
     let grammar = grammar_rules(alloc)?;
-    match Rules::make(alloc, &grammar) {
+    match Rules::make(alloc, grammar) {
         Ok(rules) => Ok(rules),
         Err(RulesError::NoMemory) => Err(AllocError),
         Err(RulesError::NotPredictive { .. }) => unreachable!(),

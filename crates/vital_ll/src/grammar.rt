@@ -1,7 +1,6 @@
-ghost use Rattle.std.specs.Prelude.{◌≡◌, ◌<◌, [], Some, IsSome, length, slice_get, slice_index_or, IfOk};
+ghost use Rattle.std.specs.Prelude.{◌≡◌, ◌<◌, [], Some, IsSome, length, slice_get, slice_index_or};
 ghost use Rattle.vital_ll.specs.Grammar.{alternative_of};
 
-use std::alloc::{AllocError, Global};
 use std::marker::Model;
 
 /// A symbol of an alternative. Kinds and rules are numbered from 0.
@@ -75,15 +74,6 @@ impl Alternative {
 }
 
 impl Alternative {
-    /// The same alternative once more.
-    fn copied(&self, alloc: Global) -> Result<Alternative, AllocError>
-        ensures { IfOk result (λ copy. copy ≡ self.now) }
-    {
-        Ok(Alternative {
-            symbols: Vec::from_slice(alloc, &self.symbols)?,
-        })
-    }
-
     fn symbols(&self) -> &[Sym]
         ensures { result.now ≡ self.now }
     {
@@ -108,17 +98,6 @@ impl Rule {
 }
 
 impl Rule {
-    /// The same rule once more.
-    fn copied(&self, alloc: Global) -> Result<Rule, AllocError>
-        ensures { IfOk result (λ copy. copy ≡ self.now) }
-    {
-        let mut alternatives = Vec::with_capacity(alloc, self.alternatives.len())?;
-        for alternative in &self.alternatives {
-            alternatives.push(alternative.copied(alloc)?)?;
-        }
-        Ok(Rule { alternatives })
-    }
-
     fn len(&self) -> usize
         ensures { result ≡ length self.now }
     {
@@ -146,17 +125,6 @@ impl RuleList {
         ensures { result.items ≡ self }
     {
         self.rules
-    }
-
-    /// The same grammar once more.
-    pub(crate) fn copied(&self, alloc: Global) -> Result<RuleList, AllocError>
-        ensures { IfOk result (λ copy. copy ≡ self.now) }
-    {
-        let mut rules = Vec::with_capacity(alloc, self.rules.len())?;
-        for rule in &self.rules {
-            rules.push(rule.copied(alloc)?)?;
-        }
-        Ok(RuleList { rules })
     }
 
     /// How many rules there are.

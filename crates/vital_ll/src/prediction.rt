@@ -82,32 +82,31 @@ impl Model for Rules {
 }
 
 impl Rules {
-    /// The table of a grammar. It is refused where the choice sets of two alternatives of a rule meet, with
+    /// A grammar with its table. It is refused where the choice sets of two alternatives of a rule meet, with
     /// the first such rule.
-    pub fn make(alloc: Global, rules: &RuleList) -> Result<Rules, RulesError>
-        requires { IsWellFormed rules.now }
-        ensures grammar { IfOk result (λ made. made ≡ rules.now) }
-        ensures predictive { OnOk result (IsPredictive rules.now) }
-        ensures conflict { IfErr result (IsConflict rules.now) }
+    pub fn make(alloc: Global, grammar: RuleList) -> Result<Rules, RulesError>
+        requires { IsWellFormed grammar }
+        ensures grammar { IfOk result (λ made. made ≡ grammar) }
+        ensures predictive { OnOk result (IsPredictive grammar) }
+        ensures conflict { IfErr result (IsConflict grammar) }
     {
-        let steps = steps(alloc, rules)?;
-        let places = places(alloc, rules, &steps)?;
-        let backward = steps_backward(alloc, rules)?;
-        let nullable = nullable_masks(alloc, rules, &backward)?;
-        let reached = reached_masks(alloc, rules, &steps, &places)?;
+        let steps = steps(alloc, &grammar)?;
+        let places = places(alloc, &grammar, &steps)?;
+        let backward = steps_backward(alloc, &grammar)?;
+        let nullable = nullable_masks(alloc, &grammar, &backward)?;
+        let reached = reached_masks(alloc, &grammar, &steps, &places)?;
         let analysis = Analysis {
-            rules,
+            rules: &grammar,
             steps: &backward,
             places: &places,
             nullable: &nullable,
             reached: &reached,
         };
         // Bit 0 is the end mark's, so there is one bit more than kinds.
-        let count = width_of(rules, &steps) / 128 + 1;
+        let count = width_of(&grammar, &steps) / 128 + 1;
         let blocks = analysis.blocks(alloc, count)?;
         let rows = analysis.all_rows(alloc, &blocks)?;
-        let table = Table::make(alloc, rules, &rows, 128 * count)?;
-        let grammar = rules.copied(alloc)?;
+        let table = Table::make(alloc, &grammar, &rows, 128 * count)?;
         Ok(Rules { grammar, table })
     }
 

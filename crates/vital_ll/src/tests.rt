@@ -39,7 +39,7 @@ fn example_rules(alloc: Global) -> Result<Rules, AllocError>
     masks_decide();
     ranks_derive();
     let grammar = example(alloc)?;
-    match Rules::make(alloc, &grammar) {
+    match Rules::make(alloc, grammar) {
         Ok(rules) => Ok(rules),
         Err(RulesError::NoMemory) => Err(AllocError),
         Err(RulesError::NotPredictive { .. }) => unreachable!(),
@@ -110,7 +110,7 @@ fn names_the_first_rule_that_is_not_decided(rt: HostRuntime) -> Result<(), Fail>
     ranks_derive();
     let grammar = undecided(rt.alloc())?;
     assert_eq!(rt;
-        Rules::make(rt.alloc(), &grammar).err(),
+        Rules::make(rt.alloc(), grammar).err(),
         Some(RulesError::NotPredictive { rule: 1 })
     );
     Ok(())

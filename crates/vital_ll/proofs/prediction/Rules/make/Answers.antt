@@ -9,14 +9,14 @@ use Rattle.vital_ll.proofs.prediction.Rules.make.Goals as goal
 
 pub all_rows-requires-clause-within : goal.all_rows-requires-clause-within
 all_rows-requires-clause-within c =
-    let below = subst (λ l. AreBelow c.args.rules.now l c.width_of.result) c.deref-9.ensures.value c.width_of.ensures.below in
+    let below = subst (λ l. AreBelow c.args.grammar l c.width_of.result) c.deref-9.ensures.value c.width_of.ensures.below in
     λ r a t chosen.
     subst (λ n. bit_of t < 128 * n) (sym (ap length c.deref-10.ensures.value ∙ c.in_ok-blocks.ensures.count))
-    (choice_within c.args.rules.now c.width_of.result c.in_ok-steps.steps.items c.in_ok-steps.ensures below r a t chosen)
+    (choice_within c.args.grammar c.width_of.result c.in_ok-steps.steps.items c.in_ok-steps.ensures below r a t chosen)
 
 pub blocks-requires-clause-analysis : goal.blocks-requires-clause-analysis
 blocks-requires-clause-analysis c =
-    let g = c.args.rules.now in
+    let g = c.args.grammar in
     let steps = c.in_ok-backward.backward.items in
     let places = c.in_ok-places.places.items in
     let nullable = c.in_ok-nullable.nullable.items in
