@@ -70,10 +70,6 @@ pub kind_inside : (kind base i : ℕ) → kind < 65536 → base ≤ kind + 1 →
 kind_inside kind base i low above within =
     has_shifted ((kind + 1) - base) i within ∙ same_test i ((kind + 1) - base) (base + i) (kind + 1) (λ e. omega arith) (λ e. omega arith) ∙ sym (kind_at kind (base + i) low)
 
-pub kind_outside : (kind base i : ℕ) → kind < 65536 → i < 128 → (base ≤ kind + 1 → (kind + 1) - base < 128 → ⊥) → has 0 i ≡ eqb kind (token_at (base + i))
-kind_outside kind base i low bit out =
-    has_none i ∙ sym (ne_eqb (base + i) (kind + 1) (λ (e : base + i ≡ kind + 1). out (omega arith) (omega arith))) ∙ sym (kind_at kind (base + i) low)
-
 -- one more rule of symbols that can begin with a token
 pub begin_more : (found empty first nullable rest : Bool) → ((found || (empty && first)) || ((empty && nullable) && rest)) ≡ (found || (empty && (first || (nullable && rest))))
 begin_more true empty first nullable rest = refl

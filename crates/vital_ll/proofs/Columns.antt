@@ -1,9 +1,8 @@
 -- The columns of the table, and where the symbols of alternatives stand.
-use Rattle.std.proofs.Common.{◌≡◌, ℕ, zero, suc, ◌+◌, ◌-◌, ◌<◌, ◌≤◌, Bool, cond, List, [], ◌∷◌, ◌++◌, length, get_or, set, replicate, take, drop, Option, Some, None, is_some, unwrap_or, slice_get, slice_range, refl, sym, ap, ◌∙◌, subst, append_assoc, length-drop, arith, inl, inr}
-use Rattle.std.specs.Option.{ForSome}
+use Rattle.std.proofs.Common.{◌≡◌, ℕ, zero, suc, ◌+◌, ◌-◌, ◌<◌, ◌≤◌, List, [], ◌∷◌, ◌++◌, length, get_or, set, replicate, take, drop, Option, Some, None, is_some, slice_get, slice_range, refl, sym, ap, ◌∙◌, subst, append_assoc, length-drop, arith, inl, inr}
 use Rattle.std.proofs.Math.Seq.{drop-append_seam, set-append_seam}
-use Rattle.std.proofs.lemmas.Bool.{cases_eq, cases_lt, ne_eqb}
-use Rattle.std.proofs.lemmas.List.{take_all, take-append-le, drop-append-le, length-append, append-nil, get_or_append_left, get_or_past}
+use Rattle.std.proofs.lemmas.Bool.{cases_eq, cases_lt}
+use Rattle.std.proofs.lemmas.List.{take_all, take-append-le, drop-append-le, length-append, get_or_append_left, get_or_past}
 use Rattle.std.proofs.lemmas.Option.{slice_get-get_or}
 use Rattle.vital_ll.specs.declared.derivation.Step.{Step}
 use Rattle.vital_ll.specs.declared.grammar.Sym.{Sym}
@@ -13,16 +12,12 @@ use Rattle.vital_ll.specs.Grammar.{Grammar, alternative_of}
 use Rattle.vital_ll.specs.Choice.{IsChoice, IsWellFormed}
 use Rattle.vital_ll.specs.Listing.{step}
 use Rattle.vital_ll.specs.Masks.{bit_of}
-use Rattle.vital_ll.specs.Sentence.{end_mark}
 use Rattle.vital_ll.specs.Table.{entry_at, HasRows, IsLonger, IsEntry, AreFirstEntries, AreEntries, AreEntriesBelow, AreEntriesOf, AreThere, entry_with, column_of, IsTable, IsColumn}
 use Rattle.vital_ll.proofs.Entries.{at_push_cases, get_or_last}
 use Rattle.vital_ll.proofs.Listings.{bounds_of}
 
 longer_more : (old mid : List Sym) (more : List Sym) → IsLonger old mid → IsLonger old (mid ++ more)
 longer_more old mid more (first, e) = (first ++ more, ap (λ (l : List Sym). l ++ more) e ∙ append_assoc old first more)
-
-pub longer_same : (symbols : List Sym) → IsLonger symbols symbols
-longer_same symbols = ([], sym (append-nil symbols))
 
 pub longer_both : (old mid new : List Sym) → IsLonger old mid → IsLonger mid new → IsLonger old new
 longer_both old mid new first (more, e) = subst (IsLonger old) (sym e) (longer_more old mid more first)
@@ -82,9 +77,6 @@ entries_more g first old new r n chosen entries start end (longer, h) is new_is 
           ∙ take_all (end - length old) chosen (let s = size in omega arith)));
     }
 
-pub entries_none : (g : Grammar) (symbols : List Sym) (r : ℕ) → IsLonger symbols symbols × AreFirstEntries g symbols r 0 []
-entries_none g symbols r = (longer_same symbols, record { size = refl; each = λ a e at. absurd (cc) })
-
 -- one more rule
 pub below_more : (g : Grammar) (old new : List Sym) (n : ℕ) (entries : List (List Entry)) (more : List Entry) → IsLonger old new → AreEntries g new n more → AreEntriesBelow g old n entries → AreEntriesBelow g new (n + 1) (entries ++ more ∷ [])
 below_more g old new n entries more longer here h = record {
@@ -94,9 +86,6 @@ below_more g old new n entries more longer here h = record {
     | inr (place, same) ↦ subst (AreEntries g new r) same (subst (λ (k : ℕ). AreEntries g new k more) (sym (place ∙ h.size)) here)
   ];
 }
-
-pub below_none : (g : Grammar) (symbols : List Sym) → AreEntriesBelow g symbols 0 []
-below_none g symbols = record { size = refl; each = λ r es at. absurd (cc) }
 
 -- the alternatives of a rule
 rule_entries : (g : Grammar) (symbols : List Sym) (entries : List (List Entry)) (r : ℕ) → AreEntriesOf g symbols entries → r < length g → AreEntries g symbols r (get_or entries r [])
@@ -161,19 +150,6 @@ pub record AreColumns (rows : List (List (List (Option ℕ)))) (entries : List (
   pub size : length columns ≡ n
   pub each : (bit : ℕ) → bit < n → get_or columns bit [] ≡ column_of rows entries bit (length rows)
 
-pub columns_none : (rows : List (List (List (Option ℕ)))) (entries : List (List Entry)) → AreColumns rows entries 0 []
-columns_none rows entries = record { size = refl; each = λ bit low. absurd (omega arith) }
-
-pub columns_more : (rows : List (List (List (Option ℕ)))) (entries : List (List Entry)) (n : ℕ) (columns : List (List (Option Entry))) (column : List (Option Entry)) → column ≡ column_of rows entries n (length rows) →
-    AreColumns rows entries n columns → AreColumns rows entries (n + 1) (columns ++ column ∷ [])
-columns_more rows entries n columns column column_is c = record {
-  size = length-append columns (column ∷ []) ∙ (let s = c.size in omega arith);
-  each = λ bit low. elim (cases_eq bit n) [
-    | inl e ↦ get_or_last columns column [] bit (e ∙ sym c.size) ∙ column_is ∙ ap (λ (k : ℕ). column_of rows entries k (length rows)) (sym e)
-    | inr d ↦ get_or_append_left columns (column ∷ []) [] bit (let s = c.size in omega arith) ∙ c.each bit (omega arith)
-  ];
-}
-
 -- an entry that is there is that of an alternative
 entry_parts : (es : List Entry) (o : Option ℕ) (e : Entry) → entry_with es o ≡ Some e → (a : ℕ) × (o ≡ Some a) × (slice_get es a ≡ Some e)
 entry_parts es None e h = absurd (cc)
@@ -217,23 +193,6 @@ table_made g bits rows entries table well some rows_are h c = record {
               absurd (cc)
         ]
 
--- where the bit of the next token is
-pub data IsBitAt : Option ℕ → ℕ → Type 0 where
-  at_end : {bit : ℕ} → bit ≡ 0 → IsBitAt None bit
-  at_kind : {kind bit : ℕ} → bit ≡ kind + 1 → IsBitAt (Some kind) bit
-
-next_bit : (next : Option ℕ) (bit : ℕ) → ForSome next (λ k. k < end_mark) → IsBitAt next bit → bit ≡ bit_of (unwrap_or next end_mark)
-next_bit next bit low (at_end e) = e
-next_bit next bit low (at_kind {kind = kind} e) =
-    e ∙ sym (ap (λ (b : Bool). cond b 0 (kind + 1)) (ne_eqb kind end_mark (let k : kind < end_mark = low kind refl in λ (f : kind ≡ end_mark). omega arith)))
-
--- the column of the next token
-pub column_is : (columns : List (List (Option Entry))) (next : Option ℕ) (first bit : ℕ) (column : List (Option Entry)) → ForSome next (λ k. k < end_mark) → IsBitAt next first → bit < length columns →
-    (first < length columns → bit ≡ first) → column ≡ get_or columns bit [] → IsColumn columns (unwrap_or next end_mark) column
-column_is columns next first bit column kind at inside same is =
-    let e : first ≡ bit_of (unwrap_or next end_mark) = next_bit next first kind at in
-    record { bit = bit; inside = inside; is = is; token = λ low. same (subst (λ (x : ℕ). x < length columns) (sym e) low) ∙ e }
-
 -- the entry that is read is an alternative that is there
 pub entry_is : (g : Grammar) (table : Table) (t r : ℕ) (column : List (Option Entry)) (e : Entry) → IsTable g table → IsColumn table.columns.items t column → get_or column r None ≡ Some e → IsEntry g table.symbols.items r e.step.alternative e
 entry_is g table t r column e table_is c is = table_is.there c.bit r e c.inside (ap (λ (l : List (Option Entry)). get_or l r None) (sym c.is) ∙ is)
@@ -245,10 +204,6 @@ entry_only g table t r a column read table_is c read_is chosen =
     let o = table_is.only r a t chosen in
     let bit_is : c.bit ≡ bit_of t = c.token o.0 in
     (o.1, read_is ∙ ap (λ (l : List (Option Entry)). get_or l r None) (c.is ∙ ap (λ (k : ℕ). get_or table.columns.items k []) bit_is) ∙ o.2, o.3)
-
--- a column has an entry for each rule
-pub column_size : (g : Grammar) (table : Table) (t : ℕ) (column : List (Option Entry)) → IsTable g table → IsColumn table.columns.items t column → length column ≡ length g
-column_size g table t column table_is c = ap length c.is ∙ table_is.size c.bit c.inside
 
 -- where the column has no entry, no alternative can be chosen
 pub no_entry : (g : Grammar) (table : Table) (t r : ℕ) (column : List (Option Entry)) (read : Option Entry) → IsTable g table → IsColumn table.columns.items t column → read ≡ get_or column r None → ((e : Entry) → read ≡ Some e → ⊥) →

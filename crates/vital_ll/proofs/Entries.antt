@@ -29,20 +29,9 @@ pub record IsChosen (old : List (Option ℕ)) (mask a left : ℕ) (choices : Lis
   pub entries : EachBit (λ i. get_or choices i None ≡ cond (has mask i && not (has left i)) (Some a) (get_or old i None))
   pub left_is : EachBit (λ i. has left i ≡ true → has mask i ≡ true)
 
-and_not : (b : Bool) → (b && not b) ≡ false
-and_not true = refl
-and_not false = refl
-
 and_true : (b : Bool) → (b && true) ≡ b
 and_true true = refl
 and_true false = refl
-
-pub chosen_start : (old : List (Option ℕ)) (mask a : ℕ) → length old ≡ 128 → IsChosen old mask a mask old
-chosen_start old mask a size = record {
-  size = size;
-  entries = λ i low. sym (ap (λ (b : Bool). cond b (Some a) (get_or old i None)) (and_not (has mask i)));
-  left_is = λ i low h. h;
-}
 
 pub chosen_more : (old : List (Option ℕ)) (mask a left k later : ℕ) (choices : List (Option ℕ)) → k < 128 → has left k ≡ true → EachBit (λ i. has later i ≡ (has left i && not (eqb i k))) →
     IsChosen old mask a left choices → IsChosen old mask a later (set choices k (Some a))
@@ -61,12 +50,6 @@ chosen_more old mask a left k later choices low on later_is c = record {
   ];
   left_is = λ i inside h. c.left_is i inside (and_parts (has left i) (not (eqb i k)) (sym (later_is i inside) ∙ h)).0;
 }
-
-pub chosen_done : (old : List (Option ℕ)) (mask a left : ℕ) (choices : List (Option ℕ)) → left ≡ 0 → IsChosen old mask a left choices →
-    EachBit (λ i. get_or choices i None ≡ cond (has mask i) (Some a) (get_or old i None))
-chosen_done old mask a left choices e c i low =
-    let none : has left i ≡ false = ap (λ (x : ℕ). has x i) e ∙ has_none i in
-    c.entries i low ∙ ap (λ (b : Bool). cond (has mask i && not b) (Some a) (get_or old i None)) none ∙ ap (λ (b : Bool). cond b (Some a) (get_or old i None)) (and_true (has mask i))
 
 none_entered : (n i : ℕ) → let row : List (Option ℕ) = replicate n None in get_or row i None ≡ None
 none_entered zero i = refl
@@ -190,9 +173,6 @@ no_conflict g r blocks rows within rows_are (a, b, t, other, has_a, has_b) =
 pub record AreTableRows (g : Grammar) (blocks n : ℕ) (table : List (List (List (Option ℕ)))) : Type 0 where
   pub size : length table ≡ n
   pub each : (r : ℕ) → r < n → AreRows g r blocks (get_or table r [])
-
-pub table_none : (g : Grammar) (blocks : ℕ) → AreTableRows g blocks 0 []
-table_none g blocks = record { size = refl; each = λ r low. absurd (omega arith) }
 
 pub table_more : (g : Grammar) (blocks n : ℕ) (table : List (List (List (Option ℕ)))) (rows : List (List (Option ℕ))) → AreRows g n blocks rows → AreTableRows g blocks n table → AreTableRows g blocks (n + 1) (table ++ rows ∷ [])
 table_more g blocks n table rows rows_are t = record {

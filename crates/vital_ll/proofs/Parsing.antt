@@ -1,13 +1,12 @@
 -- The state of reading: the tokens taken, the stack and the steps written.
 use Rattle.std.proofs.Common.{◌≡◌, ℕ, ◌+◌, ◌<◌, ◌≤◌, List, [], ◌∷◌, ◌++◌, length, take, get_or, Option, Some, None, Err, sym, ap, ◌∙◌, subst, append_assoc, arith, Bool, true, false, IsTrue, IsSome, is_some, unwrap_or, ◌↔◌}
 use Rattle.std.proofs.lemmas.List.{take_all, get_or_past}
-use Rattle.std.proofs.lemmas.List.Elements.{All-head}
 use Rattle.vital_ll.specs.declared.grammar.Sym.{Sym}
 use Rattle.vital_ll.specs.declared.grammar.Sym.TheVariants.{Token, Rule}
 use Rattle.vital_ll.specs.declared.derivation.Step.{Step}
 use Rattle.vital_ll.specs.Grammar.{Grammar, alternative_of}
 use Rattle.vital_ll.specs.Sentence.{end_mark, IsTreeOf, IsRefusedAt}
-use Rattle.vital_ll.specs.Choice.{IsChoice, IsNamed, IsWellFormed}
+use Rattle.vital_ll.specs.Choice.{IsChoice, IsWellFormed}
 use Rattle.vital_ll.specs.Readings.{IsReading}
 use Rattle.vital_ll.proofs.Deriving.{step}
 use Rattle.vital_ll.proofs.Progress.{IsProgress, IsProgress-start, IsProgress-take_next, IsProgress-expand, none_derives, refused_at, stuck_token, stuck_rule, done}
@@ -48,10 +47,6 @@ take_token g tokens k old new t steps p e inside is =
       within = omega arith;
       progress = IsProgress-take_next g tokens k t (new ++ Token end_mark ∷ []) steps inside is q;
     }
-
-pub rule_is_there : (g : Grammar) (tokens : List ℕ) (k : ℕ) (old new : List Sym) (r : ℕ) (steps : List Step) → IsParsing g tokens k old steps → old ≡ Rule r ∷ new → r < length g
-rule_is_there g tokens k old new r steps p e =
-    All-head (IsNamed (length g)) (Rule r) (new ++ Token end_mark ∷ []) (popped g tokens k old new (Rule r) steps p e).named
 
 pub refused_rule : (g : Grammar) (tokens : List ℕ) (k : ℕ) (old new : List Sym) (r next : ℕ) (steps : List Step) → IsParsing g tokens k old steps → old ≡ Rule r ∷ new →
     next ≡ get_or tokens k end_mark → ((a : ℕ) → IsChoice g r a next → ⊥) → IsReading g tokens (Err k)

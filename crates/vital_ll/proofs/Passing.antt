@@ -1,12 +1,11 @@
 -- One turn of each pass.
-use Rattle.std.proofs.Common.{◌≡◌, ℕ, ◌+◌, ◌<◌, Bool, true, false, List, [], ◌∷◌, ◌++◌, length, get_or, drop, take, Some, is_some, All, slice_get, sym, ap, ◌∙◌, subst, arith}
+use Rattle.std.proofs.Common.{◌≡◌, ℕ, ◌+◌, ◌<◌, Bool, true, false, List, [], ◌∷◌, ◌++◌, length, get_or, Some, is_some, All, slice_get, sym, ap, ◌∙◌, subst, arith}
 use Rattle.std.specs.Int.Bits.{bit_and}
 use Rattle.std.proofs.lemmas.Bool.{and_parts, and_from}
-use Rattle.std.proofs.lemmas.List.{take-append-drop, drop_more, length-take-le}
 use Rattle.std.proofs.lemmas.List.Elements.{All-head, All-tail, All-get_or}
 use Rattle.std.proofs.lemmas.Option.{slice_get_within, get_or_from_slice_get}
 use Rattle.vital_ll.specs.declared.grammar.Sym.{Sym}
-use Rattle.vital_ll.specs.declared.grammar.Sym.TheVariants.{Token, Rule}
+use Rattle.vital_ll.specs.declared.grammar.Sym.TheVariants.{Rule}
 use Rattle.vital_ll.specs.declared.derivation.Step.{Step}
 use Rattle.vital_ll.specs.declared.listing.Place.{Place}
 use Rattle.vital_ll.specs.Grammar.{Grammar, alternative_of}
@@ -53,10 +52,6 @@ module _ (g : Grammar) (steps : List Step) (k : ℕ) (s : Step) (chosen : List S
       subst (λ (y : Step). marked old i y.rule ≡ true) same
       (here i low (bits_are i low ∙ subst (λ (l : List Sym). begins (marked nullable i) (marked old i) (token_at (base + i)) false l ≡ true) whole e)))
 
--- a list round the element at a place
-pub split_at : (l : List Sym) (k : ℕ) (x : Sym) → k < length l → x ≡ get_or l k x → l ≡ take k l ++ x ∷ drop (k + 1) l
-split_at l k x h e = sym (take-append-drop k l) ∙ ap (λ (r : List Sym). take k l ++ r) (drop_more l k x h ∙ ap (λ (y : Sym). y ∷ drop (k + 1) l) (sym e))
-
 -- the parts round a place are no others
 same_split : (b1 b2 : List Sym) (x1 x2 : Sym) (a1 a2 : List Sym) → b1 ++ x1 ∷ a1 ≡ b2 ++ x2 ∷ a2 → length b1 ≡ length b2 → (x1 ≡ x2) × (a1 ≡ a2)
 same_split [] [] x1 x2 a1 a2 e n = (cc, cc)
@@ -71,19 +66,6 @@ same_named g p r s after later (b1, e1, n1) (b2, e2, n2) =
     let heads : Rule r ≡ Rule s = parts.0 in
     (let t : r ≡ s = cc in t, parts.1)
 
--- no rule is named where a token stands
-pub not_named : (g : Grammar) (p : Place) (chosen : List Sym) (t r : ℕ) (after : List Sym) → alternative_of g p.step.rule p.step.alternative ≡ Some chosen → p.symbol < length chosen →
-    Token t ≡ get_or chosen p.symbol (Token t) → IsNamedAt g p r after → ⊥
-not_named g p chosen t r after is inside at (before, e, n) =
-    let whole : before ++ Rule r ∷ after ≡ take p.symbol chosen ++ Token t ∷ drop (p.symbol + 1) chosen = let f : before ++ Rule r ∷ after ≡ chosen = cc in f ∙ split_at chosen p.symbol (Token t) inside at in
-    let parts = same_split before (take p.symbol chosen) (Rule r) (Token t) after (drop (p.symbol + 1) chosen) whole (n ∙ sym (length-take-le p.symbol chosen (omega arith))) in
-    let heads : Rule r ≡ Token t = parts.0 in cc
-
-pub named_here : (g : Grammar) (p : Place) (chosen : List Sym) (r : ℕ) (after : List Sym) → alternative_of g p.step.rule p.step.alternative ≡ Some chosen → p.symbol < length chosen →
-    Rule r ≡ get_or chosen p.symbol (Rule r) → after ≡ drop (p.symbol + 1) chosen → IsNamedAt g p r after
-named_here g p chosen r after is inside at after_is =
-    (take p.symbol chosen, is ∙ ap Some (split_at chosen p.symbol (Rule r) inside at ∙ ap (λ (l : List Sym). take p.symbol chosen ++ Rule r ∷ l) (sym after_is)), length-take-le p.symbol chosen (omega arith))
-
 at_one : {A : Type 0} (P : A → Type 0) (xs : List A) (k : ℕ) (x : A) → slice_get xs k ≡ Some x → P x → At xs k P
 at_one P xs k x e p y f = let same : x ≡ y = cc in subst P same p
 
@@ -92,7 +74,7 @@ place_there g steps places k p lists at =
     subst (IsPlaceOf g) (get_or_from_slice_get places k p p at) (All-get_or (IsPlaceOf g) places k p (slice_get_within places k p at) lists.there)
 
 pub place_rule : (g : Grammar) (p : Place) → IsPlaceOf g p → p.step.rule < length g
-place_rule g p (chosen, is, inside) = (bounds_of g p.step.rule p.step.alternative (ap is_some is)).0
+place_rule g p (chosen, is, _) = (bounds_of g p.step.rule p.step.alternative (ap is_some is)).0
 
 named_symbols : (g : Grammar) (p : Place) (r : ℕ) (after : List Sym) → IsWellFormed g → IsNamedAt g p r after → All (IsNamed (length g)) (Rule r ∷ after)
 named_symbols g p r after well (before, is, n) = all_back (IsNamed (length g)) before (Rule r ∷ after) (named_alternative g p.step.rule p.step.alternative (before ++ Rule r ∷ after) well is)

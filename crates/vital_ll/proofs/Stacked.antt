@@ -33,10 +33,6 @@ first_of d left old new symbols e filled f =
     let some : IsFilled symbols = (All-pop IsFilled old new (Some symbols) f filled).1 in
     sym (taken_down left old new symbols e f) ∙ sym (ap (λ (l : List Sym). l ++ stacked new) (head_and_rest d symbols.now some))
 
--- where nothing is left of it
-pub put_alone : (left symbols : List Sym) (stack : List (Bor (List Sym))) → length left ≡ 0 → symbols ++ stacked stack ≡ symbols ++ (left ++ stacked stack)
-put_alone left symbols stack e = ap (λ (l : List Sym). symbols ++ (l ++ stacked stack)) (sym (empty_list left e))
-
--- and where some is
+-- what is put before those that are left is read first
 pub put_before : (left : Bor (List Sym)) (symbols : List Sym) (old new : List (Bor (List Sym))) → new ≡ old ++ left ∷ [] → symbols ++ stacked new ≡ symbols ++ (left.now ++ stacked old)
 put_before left symbols old new e = ap (λ (l : List Sym). symbols ++ l) (ap stacked e ∙ stacked_push old left)

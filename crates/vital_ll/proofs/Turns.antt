@@ -1,5 +1,5 @@
 -- Turns that add bits to masks.
-use Rattle.std.proofs.Common.{◌≡◌, ℕ, zero, suc, ◌^◌, ◌<◌, ◌≤◌, Bool, true, false, ◌||◌, List, [], ◌∷◌, length, get_or, set, refl, sym, ap, ◌∙◌, subst, arith, inl, inr, ◌⊎◌}
+use Rattle.std.proofs.Common.{◌≡◌, ℕ, zero, suc, ◌^◌, ◌<◌, ◌≤◌, Bool, true, false, List, [], ◌∷◌, length, get_or, set, refl, sym, ap, ◌∙◌, subst, arith, inl, inr, ◌⊎◌}
 use Rattle.std.specs.Int.Bits.{bit_or}
 use Rattle.std.proofs.lemmas.Bool.{cases_eq, or_cases, or_left, or_right}
 use Rattle.std.proofs.lemmas.List.{length-set, set-get_or, get_or-set_same, get_or-set_other}
@@ -66,25 +66,3 @@ turn_add Reason Settled old new r bits changed inside added reason settled =
       quiet = λ (x : true ≡ false). absurd (cc);
       fewer = λ _. unmarked-set old r (bit_or (get_or old r 0) bits) inside (let least : get_or old r 0 ≤ bit_or (get_or old r 0) bits = le_or_l (get_or old r 0) bits in let differ : bit_or (get_or old r 0) bits ≡ get_or old r 0 → ⊥ = other refl in omega arith) added.fits;
     }
-
-or_false : (a b : Bool) → (a || b) ≡ false → (a ≡ false) × (b ≡ false)
-or_false true b e = absurd (cc)
-or_false false b e = (refl, e)
-
-later_fewer : (a b : Bool) (old mid new : List ℕ) → (a ≡ true → unmarked mid < unmarked old) → (a ≡ false → mid ≡ old) → (b ≡ true → unmarked new < unmarked mid) → (b ≡ false → new ≡ mid) →
-    (a || b) ≡ true → unmarked new < unmarked old
-later_fewer true true old mid new f g h i e = let x : unmarked mid < unmarked old = f refl in let y : unmarked new < unmarked mid = h refl in omega arith
-later_fewer true false old mid new f g h i e = subst (λ (l : List ℕ). unmarked l < unmarked old) (sym (i refl)) (f refl)
-later_fewer false true old mid new f g h i e = subst (λ (l : List ℕ). unmarked new < unmarked l) (g refl) (h refl)
-later_fewer false false old mid new f g h i e = absurd (cc)
-
--- one turn after another
-pub turn_next : (Reason : ℕ → ℕ → Type 0) (First Second Both : List ℕ → Type 0) (old mid new : List ℕ) (a b : Bool) → ((m : List ℕ) → First m → Second m → Both m) →
-    IsTurn Reason First old mid a → IsTurn Reason Second mid new b → IsTurn Reason Both old new (a || b)
-turn_next Reason First Second Both old mid new a b join x y = record {
-  len = y.len ∙ x.len;
-  sound = λ s. y.sound (x.sound s);
-  kept = λ i r h. y.kept i r (x.kept i r h);
-  quiet = λ e. let p = or_false a b e in let q = x.quiet p.0 in let s = y.quiet p.1 in (s.0 ∙ q.0, join old q.1 (subst Second q.0 s.1));
-  fewer = later_fewer a b old mid new x.fewer (λ e. (x.quiet e).0) y.fewer (λ e. (y.quiet e).0);
-}
