@@ -68,13 +68,13 @@ after_target_takes p target here w = choose 34
     & followed (signal_assignment_takes target w) (λ x us a. gives (c.SignalAssignment p x) (whole_conc (Conc-F.SignalAssignment p x) here a))
     & tt)
 
-unlabelled_takes : {o : Source} {n : ℕ} {ts us : List Token} (p : Place) (first : Identifier) → Stands o ts p → Named o ts first us →
+pub unlabelled_takes : {o : Source} {n : ℕ} {ts us : List Token} (p : Place) (first : Identifier) → Stands o ts p → Named o ts first us →
     Takes o n (s.suffixes ∷ s.conc_end ∷ []) us (unlabelled p first) (λ x ws. Whole o ts (nodes.Concurrent x) ws)
 unfolding unlabelled nodes.parts_of place_of
 unlabelled_takes p first here x = followed suffix_list_takes (λ found us a.
     after_target_takes p (roll-Reference (record { identifier = first; suffixes = found })) here (record { stands = x.stands; inside = led x.inside a }))
 
-instance_takes : {o : Source} {n : ℕ} {ts : List Token} (label : Identifier) →
+pub instance_takes : {o : Source} {n : ℕ} {ts : List Token} (label : Identifier) →
     Takes o n (s.name ∷ s.maps ∷ s.word kind.Semicolon ∷ []) ts (instance label) (λ x us. Along o ts (nodes.parts_of_instance x) us)
 unfolding instance
 instance_takes label = followed name_takes (λ called us w. step_before 37 rules.maps_is (followed (map_items_take 38 rules.generic_map_is) (λ generics ws a.
@@ -94,7 +94,7 @@ module _ (o : Source) (n : ℕ) (inner : Reader (List Conc)) (inner_takes : (ts 
       followed (inner_takes fs) (λ found gs h. token_first (λ hs k. token_first (λ ks l. passed closing_takes (λ _ ls m. token_first (λ ms q.
       gives (roll-Block (record { declarations = declared; statements = found })) (led a (led b (joined f (led g (ended h (led k (led l (led m q)))))))))))))))))
 
-  labelled_takes : {ts us : List Token} (p : Place) (label : Identifier) → Stands o ts p → Along o ts [] us →
+  pub labelled_takes : {ts us : List Token} (p : Place) (label : Identifier) → Stands o ts p → Along o ts [] us →
       Takes o n (s.labelled ∷ []) us (labelled inner p label) (λ x ws. Whole o ts (nodes.Concurrent x) ws)
   unfolding labelled roll-Conc roll out-Conc
   labelled_takes p label here x = choose 36
@@ -107,7 +107,7 @@ module _ (o : Source) (n : ℕ) (inner : Reader (List Conc)) (inner_takes : (ts 
       & followed block_takes (λ y us a. gives (c.Block p label y) (whole_conc (Conc-F.Block p label y) here (led x a)))
       & tt)
 
-  after_identifier_takes : {ts : List Token} (p : Place) → Stands o ts p → Takes o n (s.id ∷ s.conc_rest ∷ []) ts (after_identifier inner p) (λ x us. Whole o ts (nodes.Concurrent x) us)
+  pub after_identifier_takes : {ts : List Token} (p : Place) → Stands o ts p → Takes o n (s.id ∷ s.conc_rest ∷ []) ts (after_identifier inner p) (λ x us. Whole o ts (nodes.Concurrent x) us)
   unfolding after_identifier
   after_identifier_takes p here = followed identifier_takes (λ first us x. choose 33
       (λ next. if next == 0 then (skip >> labelled inner p first) else unlabelled p first)
@@ -116,7 +116,7 @@ module _ (o : Source) (n : ℕ) (inner : Reader (List Conc)) (inner_takes : (ts 
       & unlabelled_takes p first here x
       & tt))
 
-  conc_takes : {ts : List Token} → Takes o n (s.conc ∷ []) ts (conc inner) (λ x us. Whole o ts (nodes.Concurrent x) us)
+  pub conc_takes : {ts : List Token} → Takes o n (s.conc ∷ []) ts (conc inner) (λ x us. Whole o ts (nodes.Concurrent x) us)
   unfolding conc roll-Conc roll out-Conc
   conc_takes = choose 32
       (λ form. place >>= λ p. if form == 0 then (process >>= λ x. pure (c.Process p None x)) else after_identifier inner p)
@@ -129,7 +129,7 @@ module _ (o : Source) (n : ℕ) (inner : Reader (List Conc)) (inner_takes : (ts 
   concs_down = lists_down 31 _ _ (Each-along o (λ x. nodes.Concurrent x)) (each_joined (λ x. nodes.Concurrent x)) stay rules.concs_is
       (single (λ ts. claiming conc_takes (λ x us w. one w)) & tt)
 
-concs_within_take : (o : Source) (n : ℕ) (ts : List Token) → Takes o n (s.concs ∷ []) ts (concs_within n) (λ found us. Along o ts (nodes.concurrents found) us)
+pub concs_within_take : (o : Source) (n : ℕ) (ts : List Token) → Takes o n (s.concs ∷ []) ts (concs_within n) (λ found us. Along o ts (nodes.concurrents found) us)
 unfolding concs_within
 concs_within_take o zero ts = none_left
 concs_within_take o (suc n) ts = concs_down o n (concs_within n) (concs_within_take o n)

@@ -23,7 +23,7 @@ use Rattle.vital_shapes.specs.Declarations.{bounds, sub, iface_class, iface_clas
 use Rattle.vital_shapes.proofs.Along.{Source, Along, stay, stand, joined, led, ended, passing, one, before, Each-along, each_joined}
 use Rattle.vital_shapes.proofs.Expressions.{direction_takes}
 use Rattle.vital_shapes.proofs.Identifiers.{Named, identifier_takes, Identifiers, none, next, identifiers_take, written_takes, closing_takes}
-use Rattle.vital_shapes.proofs.Lists.{lists, several}
+use Rattle.vital_shapes.proofs.Lists.{Claim, lists, several}
 use Rattle.vital_shapes.proofs.Outermost.{expression_takes, name_takes, optional_value_takes}
 use Rattle.vital_shapes.proofs.Rules as rules
 use Rattle.vital_shapes.proofs.Steps.{◌&◌, choose, step, token_first}
@@ -91,6 +91,12 @@ more_ifaces_take : {o : Source} {n : ℕ} {ts us : List Token} (found : List Ifa
 more_ifaces_take {o} found a = lists 9 _ _ (Each-along o (λ x. nodes.Interface x)) (each_joined (λ x. nodes.Interface x)) a rules.more_ifaces_is
     (several (λ ts. token_first (λ us b. claiming iface_takes (λ all ws c. led b c))) & tt)
 
+pub any_more_ifaces_take : {o : Source} {n : ℕ} {ts : List Token} (found : List Iface) → Takes o n (s.more_ifaces ∷ []) ts (more_lists (λ _. after iface) found) (λ _ _. Unit {0})
+any_more_ifaces_take {o} {ts = ts} found =
+    let Any : Claim Iface = λ _ _ _. Unit {0} in
+    lists 9 _ found Any {start = ts} (λ _ _ _ _ _ _ _. tt) tt rules.more_ifaces_is
+    (several (λ bs. token_first (λ cs a. claiming iface_takes (λ _ _ _. tt))) & tt)
+
 pub interfaces_take : {o : Source} {n k : ℕ} {ts : List Token} (r : ℕ) →
     slice_get grammar r ≡ Some ([] ∷ (Word k ∷ s.word kind.LeftParenthesis ∷ s.iface ∷ s.more_ifaces ∷ s.word kind.RightParenthesis ∷ s.word kind.Semicolon ∷ []) ∷ []) →
     Takes o n (Rule r ∷ []) ts interfaces (λ found us. Along o ts (nodes.interfaces found) us)
@@ -133,7 +139,7 @@ specification_takes id x = token_first (λ qs a. followed designator_takes (λ o
     gives (d.Specification (record { identifier = id; designator = of_what; class = class; value = value }))
     (stand x.stands (led x.inside (led a (led b (led c (led f (led g (one w))))))) h))))))))
 
-attribute_takes : {o : Source} {n : ℕ} {ts : List Token} →
+pub attribute_takes : {o : Source} {n : ℕ} {ts : List Token} →
     Takes o n (s.word kind.Attribute ∷ s.id ∷ s.attribute_rest ∷ []) ts attribute (λ x us. Along o ts (nodes.Declaration x ∷ []) us)
 unfolding attribute nodes.parts_of place_of
 attribute_takes = token_first (λ us a. followed identifier_takes (λ id ws x. choose 26

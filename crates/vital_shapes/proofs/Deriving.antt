@@ -1,5 +1,5 @@
 -- What derives is read from the left; so a reader takes all that its symbols derive.
-use Rattle.std.proofs.Common.{◌≡◌, ℕ, List, [], ◌∷◌, ◌++◌, Some, refl, sym, ap, ◌∙◌, subst, append_assoc, le_refl}
+use Rattle.std.proofs.Common.{◌≡◌, ◌≤◌, ℕ, List, [], ◌∷◌, ◌++◌, length, Some, refl, sym, ap, ◌∙◌, subst, append_assoc, le_refl}
 use Rattle.vital_grammar.specs.Grammar.{grammar}
 use Rattle.vital_ll.specs.Grammar.{Derives, nothing, token, rule}
 use Rattle.vital_ll.specs.declared.derivation.Step.{Step}
@@ -7,7 +7,7 @@ use Rattle.vital_ll.specs.declared.grammar.Sym.{Sym}
 use Rattle.vital_ll.specs.declared.grammar.Sym.TheVariants.{Token as Word}
 use Rattle.vital_lex.specs.declared.token_list.Token.{Token}
 use Rattle.vital_shapes.specs.Reading.{Input, Reader, left, kinds_of}
-use Rattle.vital_shapes.specs.Taking.{TakesAll}
+use Rattle.vital_shapes.specs.Taking.{TakesAll, TakesWithin}
 use Rattle.vital_shapes.proofs.Along.{Source}
 use Rattle.vital_shapes.proofs.FromTheLeft.{Reads, over, take, expand}
 use Rattle.vital_shapes.proofs.Takes.{Answer, Takes}
@@ -67,15 +67,16 @@ pub record Taken {A : Type 0} (reader : Reader A) (i ending : Input) (Q : A → 
   pub answers : reader i ≡ Some (answer, ending)
   pub good : Q answer ending.tokens
 
-pub taken : {A : Type 0} {xs : List Sym} {reader : Reader A} (file : ℕ) (text : List ℕ) (tokens more_tokens : List Token) (steps more_steps : List Step) {Q : A → List Token → Type 0} →
-    ((n : ℕ) → Takes (record { file = file; text = text }) n xs (tokens ++ more_tokens) reader Q) → Derives grammar xs (kinds_of tokens) steps →
+pub taken : {A : Type 0} {xs : List Sym} {reader : Reader A} (levels file : ℕ) (text : List ℕ) (tokens more_tokens : List Token) (steps more_steps : List Step) {Q : A → List Token → Type 0} →
+    length (steps ++ more_steps) ≤ levels → Takes (record { file = file; text = text }) levels xs (tokens ++ more_tokens) reader Q → Derives grammar xs (kinds_of tokens) steps →
     Taken reader (record { steps = steps ++ more_steps; tokens = tokens ++ more_tokens; text = text; file = file }) (record { steps = more_steps; tokens = more_tokens; text = text; file = file }) Q
-taken {xs = xs} {reader = reader} file text tokens more_tokens steps more_steps {Q = Q} takes d =
+unfolding left
+taken {xs = xs} {reader = reader} levels file text tokens more_tokens steps more_steps {Q = Q} fits takes d =
     let i : Input = record { steps = steps ++ more_steps; tokens = tokens ++ more_tokens; text = text; file = file } in
     let ending : Input = record { steps = more_steps; tokens = more_tokens; text = text; file = file } in
     let o : Source = record { file = file; text = text } in
     let reads : Reads ending (xs ++ []) (tokens ++ more_tokens) (steps ++ more_steps) = reads_derived d tokens refl over in
-    let a : Answer o ending [] i reader Q = (takes (left i)).run ending i [] (le_refl (left i)) (record { reads = reads; text_is = refl; file_is = refl }) refl in
+    let a : Answer o ending [] i reader Q = takes.run ending i [] fits (record { reads = reads; text_is = refl; file_is = refl }) refl in
     let is_end = at_end a.ready.reads refl in
     let same : a.next ≡ ending = λ j. record { steps = is_end.1 j; tokens = is_end.0 j; text = a.ready.text_is j; file = a.ready.file_is j } in
     record { answer = a.value; answers = a.answers ∙ ap (λ (n : Input). Some (a.value, n)) same; good = subst (λ (l : List Token). Q a.value l) is_end.0 a.good }
@@ -84,5 +85,13 @@ pub taken_all : {A : Type 0} {xs : List Sym} {reader : Reader A} {Q : Source →
     ((o : Source) (n : ℕ) (ts : List Token) → Takes o n xs ts reader (Q o ts)) → TakesAll xs reader
 taken_all {Q = Q} takes file text tokens more_tokens steps more_steps d =
     let o : Source = record { file = file; text = text } in
-    let t = taken file text tokens more_tokens steps more_steps {Q = Q o (tokens ++ more_tokens)} (λ n. takes o n (tokens ++ more_tokens)) d in
+    let levels = length (steps ++ more_steps) in
+    let t = taken levels file text tokens more_tokens steps more_steps {Q = Q o (tokens ++ more_tokens)} (le_refl levels) (takes o levels (tokens ++ more_tokens)) d in
+    (t.answer, t.answers)
+
+pub taken_within : {A : Type 0} {xs : List Sym} {reader : ℕ → Reader A} {Q : Source → List Token → A → List Token → Type 0} →
+    ((o : Source) (n : ℕ) (ts : List Token) → Takes o n xs ts (reader n) (Q o ts)) → TakesWithin xs reader
+taken_within {Q = Q} takes levels file text tokens more_tokens steps more_steps fits d =
+    let o : Source = record { file = file; text = text } in
+    let t = taken levels file text tokens more_tokens steps more_steps {Q = Q o (tokens ++ more_tokens)} fits (takes o levels (tokens ++ more_tokens)) d in
     (t.answer, t.answers)

@@ -27,7 +27,7 @@ use Rattle.vital_nodes.specs.declared.expr.Item.TheVariants as forms
 use Rattle.vital_nodes.specs.declared.expr.Choice.TheVariants as choices
 use Rattle.vital_nodes.specs.declared.expr.Actual.TheVariants as actuals
 use Rattle.vital_shapes.specs.Reading.{Reader, ◌>>=◌, ◌>>◌, pure, skip, place, spelling, identifier, after, more, many}
-use Rattle.vital_shapes.specs.Expressions.{logical_of, relational_of, sign_of, multiplying_of, adding_of, direction_of, direction, sum_of, product_of, sign_before, number, in_parentheses, selected, ticked, suffix, reference, primary, factor, next_factor, term, next_term, simple, relation, operands, expr, range, value_or_range, actual, association, one_item, item_list}
+use Rattle.vital_shapes.specs.Expressions.{logical_of, relational_of, sign_of, multiplying_of, adding_of, direction_of, direction, sum_of, product_of, sign_before, number, in_parentheses, selected, ticked, suffix, reference, primary, factor, next_factor, after_factor, term, next_term, after_term, simple, after_sum, relation, operands, after_relation, expr, range, value_or_range, actual, association, one_item, item_list}
 use Rattle.vital_shapes.proofs.Along.{Source, Stands, Along, stay, joined, led, ended, passing, Whole, one, before, Each-along, each_joined, All-along, all_joined}
 use Rattle.vital_shapes.proofs.Identifiers.{identifier_takes}
 use Rattle.vital_shapes.proofs.Lists.{lists, single, separated_take}
@@ -96,7 +96,7 @@ module _ (o : Source) (n : ℕ) (items : Reader (List Item)) (items_take : (ts :
   unfolding in_parentheses
   in_parentheses_takes = token_first (λ us a. followed (items_take us) (λ found ws b. token_first (λ vs c. gives found (led a (ended b c)))))
 
-  selected_takes : {ts : List Token} → Takes o n (s.word kind.Dot ∷ s.selected ∷ []) ts (selected items) (λ x us. Along o ts (nodes.parts_of_suffix x) us)
+  pub selected_takes : {ts : List Token} → Takes o n (s.word kind.Dot ∷ s.selected ∷ []) ts (selected items) (λ x us. Along o ts (nodes.parts_of_suffix x) us)
   unfolding selected roll-Suffix roll out-Suffix
   selected_takes = token_first (λ us a. choose 49
       (λ c. if c == 0 then (identifier >>= λ x. pure (suffixes.Selected x)) else (place >>= λ p. skip >> pure (suffixes.All p)))
@@ -105,7 +105,7 @@ module _ (o : Source) (n : ℕ) (items : Reader (List Item)) (items_take : (ts :
       & placed refl (λ p here. token_first (λ ws b. gives (suffixes.All p) (suffix_along (Suffix-F.All p) (led a b))))
       & tt))
 
-  ticked_takes : {ts : List Token} → Takes o n (s.word kind.Tick ∷ s.ticked ∷ []) ts (ticked items) (λ x us. Along o ts (nodes.parts_of_suffix x) us)
+  pub ticked_takes : {ts : List Token} → Takes o n (s.word kind.Tick ∷ s.ticked ∷ []) ts (ticked items) (λ x us. Along o ts (nodes.parts_of_suffix x) us)
   unfolding ticked roll-Suffix roll out-Suffix
   ticked_takes = token_first (λ us a. choose 50
       (λ c. if c == 0 then (identifier >>= λ x. pure (suffixes.Attribute x)) else (in_parentheses items >>= λ found. pure (suffixes.Qualified found)))
@@ -132,7 +132,7 @@ module _ (o : Source) (n : ℕ) (items : Reader (List Item)) (items_take : (ts :
   reference_takes = step 47 rules.name_is (followed identifier_takes (λ first us x. followed suffixes_take (λ found ws a.
       gives (roll-Reference (record { identifier = first; suffixes = found })) (record { stands = x.stands; inside = led x.inside a }))))
 
-  primary_takes : {ts : List Token} → Takes o n (s.prim ∷ []) ts (primary items) (λ x us. Whole o ts (nodes.Expression x) us)
+  pub primary_takes : {ts : List Token} → Takes o n (s.prim ∷ []) ts (primary items) (λ x us. Whole o ts (nodes.Expression x) us)
   unfolding primary roll-Expr roll out-Expr place_of
   primary_takes = choose 71
       (λ c. if c == 0 then number else (if c == 3 then (reference items >>= λ x. pure (e.Reference x)) else (place >>= λ p.
@@ -145,7 +145,7 @@ module _ (o : Source) (n : ℕ) (items : Reader (List Item)) (items_take : (ts :
       & placed refl (λ p here. followed in_parentheses_takes (λ x us a. gives (e.Parenthesized p x) (whole_expr (Expr-F.Parenthesized p x) here a)))
       & tt)
 
-  factor_takes : {ts : List Token} → Takes o n (s.factor ∷ []) ts (factor items) (λ x us. Whole o ts (nodes.Expression x) us)
+  pub factor_takes : {ts : List Token} → Takes o n (s.factor ∷ []) ts (factor items) (λ x us. Whole o ts (nodes.Expression x) us)
   unfolding factor roll-Expr roll out-Expr
   factor_takes = choose 70
       (λ c. place >>= λ p. if c == 0 then (skip >> (primary items >>= λ x. pure (e.Not p x))) else primary items)
@@ -158,32 +158,40 @@ module _ (o : Source) (n : ℕ) (items : Reader (List Item)) (items_take : (ts :
   unfolding next_factor
   next_factor_takes c k = token_first (λ us a. followed factor_takes (λ x ws w. gives (multiplying_of c, x) (led a (one w))))
 
-  more_factors_take : {ts : List Token} → Takes o n (s.more_factors ∷ []) ts (many (next_factor items)) (Each-along o (λ f. nodes.Expression f.1) ts)
+  pub more_factors_take : {ts : List Token} → Takes o n (s.more_factors ∷ []) ts (many (next_factor items)) (Each-along o (λ f. nodes.Expression f.1) ts)
   more_factors_take = lists 69 _ _ (Each-along o (λ f. nodes.Expression f.1)) (each_joined (λ f. nodes.Expression f.1)) stay rules.more_factors_is
       (single (λ ts. next_factor_takes 1 _)
       & single (λ ts. next_factor_takes 2 _)
       & tt)
 
-  term_takes : {ts : List Token} → Takes o n (s.term ∷ []) ts (term items) (λ x us. Whole o ts (nodes.Expression x) us)
+  after_factor_takes : {ts us : List Token} (p : Place) (first : Expr) → Stands o ts p → Whole o ts (nodes.Expression first) us →
+      Takes o n (s.more_factors ∷ []) us (after_factor items p first) (λ x ws. Whole o ts (nodes.Expression x) ws)
+  unfolding after_factor
+  after_factor_takes p first here w = followed more_factors_take (λ others ws a. gives (product_of p first others) (product_whole p first others here w a))
+
+  pub term_takes : {ts : List Token} → Takes o n (s.term ∷ []) ts (term items) (λ x us. Whole o ts (nodes.Expression x) us)
   unfolding term
-  term_takes = step 68 rules.term_is (placed refl (λ p here. followed factor_takes (λ first us w. followed more_factors_take (λ others ws a.
-      gives (product_of p first others) (product_whole p first others here w a)))))
+  term_takes = step 68 rules.term_is (placed refl (λ p here. followed factor_takes (λ first us w. after_factor_takes p first here w)))
 
   next_term_takes : {ts : List Token} (c k : ℕ) → Takes o n (Word k ∷ s.term ∷ []) ts (next_term items c) (λ x us. Along o ts (nodes.Expression x.1 ∷ []) us)
   unfolding next_term
   next_term_takes c k = token_first (λ us a. followed term_takes (λ x ws w. gives (adding_of c, x) (led a (one w))))
 
-  more_terms_take : {ts : List Token} → Takes o n (s.more_terms ∷ []) ts (many (next_term items)) (Each-along o (λ f. nodes.Expression f.1) ts)
+  pub more_terms_take : {ts : List Token} → Takes o n (s.more_terms ∷ []) ts (many (next_term items)) (Each-along o (λ f. nodes.Expression f.1) ts)
   more_terms_take = lists 67 _ _ (Each-along o (λ f. nodes.Expression f.1)) (each_joined (λ f. nodes.Expression f.1)) stay rules.more_terms_is
       (single (λ ts. next_term_takes 1 _)
       & single (λ ts. next_term_takes 2 _)
       & single (λ ts. next_term_takes 3 _)
       & tt)
 
-  simple_takes : {ts : List Token} → Takes o n (s.sum ∷ []) ts (simple items) (λ x us. Whole o ts (nodes.Expression x) us)
+  after_term_takes : {ts us ws : List Token} (p : Place) (sign : Option Sign) (first : Expr) → Stands o ts p → SignRead o ts sign us → Whole o us (nodes.Expression first) ws →
+      Takes o n (s.more_terms ∷ []) ws (after_term items p sign first) (λ x vs. Whole o ts (nodes.Expression x) vs)
+  unfolding after_term
+  after_term_takes p sign first here x w = followed more_terms_take (λ others vs a. gives (sum_of p sign first others) (sum_whole p sign first others here x w a))
+
+  pub simple_takes : {ts : List Token} → Takes o n (s.sum ∷ []) ts (simple items) (λ x us. Whole o ts (nodes.Expression x) us)
   unfolding simple
-  simple_takes = step 65 rules.sum_is (placed refl (λ p here. followed sign_takes (λ sign us x. followed term_takes (λ first ws w. followed more_terms_take (λ others vs a.
-      gives (sum_of p sign first others) (sum_whole p sign first others here x w a))))))
+  simple_takes = step 65 rules.sum_is (placed refl (λ p here. followed sign_takes (λ sign us x. followed term_takes (λ first ws w. after_term_takes p sign first here x w))))
 
   compared_takes : {ts us : List Token} (c k : ℕ) (p : Place) (first : Expr) → Stands o ts p → Whole o ts (nodes.Expression first) us →
       Takes o n (Word k ∷ s.sum ∷ []) us
@@ -194,10 +202,10 @@ module _ (o : Source) (n : ℕ) (items : Reader (List Item)) (items_take : (ts :
       gives (e.Relation (roll-Relation (record { place = p; operator = relational_of c; left = first; right = second })))
       (whole_expr (Expr-F.Relation (roll-Relation (record { place = p; operator = relational_of c; left = first; right = second }))) here (before w (led a (one x))))))
 
-  relation_takes : {ts : List Token} → Takes o n (s.rel ∷ []) ts (relation items) (λ x us. Whole o ts (nodes.Expression x) us)
-  unfolding relation
-  relation_takes =
-      step 63 rules.rel_is (placed refl (λ p here. followed simple_takes (λ first us w. choose 64
+  pub after_sum_takes : {ts us : List Token} (p : Place) (first : Expr) → Stands o ts p → Whole o ts (nodes.Expression first) us →
+      Takes o n (s.rel_rest ∷ []) us (after_sum items p first) (λ x ws. Whole o ts (nodes.Expression x) ws)
+  unfolding after_sum
+  after_sum_takes p first here w = choose 64
       (λ c. if c == 0 then pure first else (skip >> (simple items >>= λ second. pure (e.Relation (roll-Relation (record { place = p; operator = relational_of c; left = first; right = second }))))))
       rules.rel_rest_is
       (gives first w
@@ -207,7 +215,11 @@ module _ (o : Source) (n : ℕ) (items : Reader (List Item)) (items_take : (ts :
       & compared_takes 4 _ p first here w
       & compared_takes 5 _ p first here w
       & compared_takes 6 _ p first here w
-      & tt))))
+      & tt)
+
+  pub relation_takes : {ts : List Token} → Takes o n (s.rel ∷ []) ts (relation items) (λ x us. Whole o ts (nodes.Expression x) us)
+  unfolding relation
+  relation_takes = step 63 rules.rel_is (placed refl (λ p here. followed simple_takes (λ first us w. after_sum_takes p first here w)))
 
   more_operands_take : {ts us : List Token} {k : ℕ} (r : ℕ) (found : List Expr) → slice_get grammar r ≡ Some ([] ∷ (Word k ∷ s.rel ∷ Rule r ∷ []) ∷ []) →
       Along o ts (nodes.expressions found) us →
@@ -239,10 +251,10 @@ module _ (o : Source) (n : ℕ) (items : Reader (List Item)) (items_take : (ts :
   unfolding roll-Expr roll out-Expr
   logical_whole p c found here a = whole_expr (Expr-F.Logical p (logical_of c) found) here a
 
-  pub expr_takes : {ts : List Token} → Takes o n (s.expr ∷ []) ts (expr items) (λ x us. Whole o ts (nodes.Expression x) us)
-  unfolding expr
-  expr_takes =
-      step 57 rules.expr_is (placed refl (λ p here. followed relation_takes (λ first us w. choose 58
+  pub after_relation_takes : {ts us : List Token} (p : Place) (first : Expr) → Stands o ts p → Whole o ts (nodes.Expression first) us →
+      Takes o n (s.expr_rest ∷ []) us (after_relation items p first) (λ x ws. Whole o ts (nodes.Expression x) ws)
+  unfolding after_relation
+  after_relation_takes p first here w = choose 58
       (λ c. if c == 0 then pure first else (operands items first c >>= λ found. pure (e.Logical p (logical_of c) found)))
       rules.expr_rest_is
       (gives first w
@@ -252,7 +264,11 @@ module _ (o : Source) (n : ℕ) (items : Reader (List Item)) (items_take : (ts :
       & followed (chain_takes 62 first 4 refl rules.more_xnors_is w) (λ found ws a. gives (e.Logical p (logical_of 4) found) (logical_whole p 4 found here a))
       & followed (pair_takes first 5 refl w) (λ found ws a. gives (e.Logical p (logical_of 5) found) (logical_whole p 5 found here a))
       & followed (pair_takes first 6 refl w) (λ found ws a. gives (e.Logical p (logical_of 6) found) (logical_whole p 6 found here a))
-      & tt))))
+      & tt)
+
+  pub expr_takes : {ts : List Token} → Takes o n (s.expr ∷ []) ts (expr items) (λ x us. Whole o ts (nodes.Expression x) us)
+  unfolding expr
+  expr_takes = step 57 rules.expr_is (placed refl (λ p here. followed relation_takes (λ first us w. after_relation_takes p first here w)))
 
   -- ---- ranges and items
 
@@ -262,7 +278,7 @@ module _ (o : Source) (n : ℕ) (items : Reader (List Item)) (items_take : (ts :
   range_takes l w = followed direction_takes (λ d ws a. followed expr_takes (λ r vs x.
       gives (roll-Range (record { left = l; direction = d; right = r })) (before w (led a (one x)), refl)))
 
-  value_or_range_takes : {ts : List Token} → Takes o n (s.expr ∷ s.item_range ∷ []) ts (value_or_range items) (WholeChoice o ts)
+  pub value_or_range_takes : {ts : List Token} → Takes o n (s.expr ∷ s.item_range ∷ []) ts (value_or_range items) (WholeChoice o ts)
   unfolding value_or_range place_of roll-Choice roll out-Choice
   value_or_range_takes {ts} = followed expr_takes (λ l us w. choose 54
       (λ c. if c == 0 then pure (choices.Value l) else (range items l >>= λ x. pure (choices.Range x)))
@@ -271,7 +287,7 @@ module _ (o : Source) (n : ℕ) (items : Reader (List Item)) (items_take : (ts :
       & followed (range_takes l w) (λ x ws a. gives (choices.Range x) (whole_choice (Choice-F.Range x) (subst (λ (y : Expr). Stands o ts (place_of_expr y)) (sym a.1) w.stands) a.0))
       & tt))
 
-  actual_takes : {ts : List Token} → Takes o n (s.actual ∷ []) ts (actual items) (λ x us. Along o ts (nodes.parts_in_actual (out-Actual x)) us)
+  pub actual_takes : {ts : List Token} → Takes o n (s.actual ∷ []) ts (actual items) (λ x us. Along o ts (nodes.parts_in_actual (out-Actual x)) us)
   unfolding actual roll-Actual roll out-Actual
   actual_takes = choose 56
       (λ c. place >>= λ p. if c == 0 then (expr items >>= λ x. pure (actuals.Value x)) else (skip >> pure (actuals.Open p)))
@@ -280,7 +296,7 @@ module _ (o : Source) (n : ℕ) (items : Reader (List Item)) (items_take : (ts :
       & placed refl (λ p here. token_first (λ us a. gives (actuals.Open p) (actual_along (Actual-F.Actual::Open p) a)))
       & tt)
 
-  association_takes : {ts : List Token} → Takes o n (s.expr ∷ s.item_range ∷ s.item_actual ∷ []) ts (association items) (λ x us. Whole o ts (nodes.Item x) us)
+  pub association_takes : {ts : List Token} → Takes o n (s.expr ∷ s.item_range ∷ s.item_actual ∷ []) ts (association items) (λ x us. Whole o ts (nodes.Item x) us)
   unfolding association roll-Item roll out-Item
   association_takes = followed value_or_range_takes (λ first us w. choose 55
       (λ c. if c == 0 then pure (forms.Positional first) else (skip >> (actual items >>= λ x. pure (forms.Named (roll-Association (record { formal = first; actual = x }))))))
@@ -289,7 +305,7 @@ module _ (o : Source) (n : ℕ) (items : Reader (List Item)) (items_take : (ts :
       & token_first (λ ws a. followed actual_takes (λ x vs b. gives (forms.Named (roll-Association (record { formal = first; actual = x }))) (whole_item (Item-F.Named (roll-Association (record { formal = first; actual = x }))) w.stands (led (passing w.inside) (led a b)))))
       & tt))
 
-  one_item_takes : {ts : List Token} → Takes o n (s.item ∷ []) ts (one_item items) (λ x us. Whole o ts (nodes.Item x) us)
+  pub one_item_takes : {ts : List Token} → Takes o n (s.item ∷ []) ts (one_item items) (λ x us. Whole o ts (nodes.Item x) us)
   unfolding one_item roll-Item roll out-Item
   one_item_takes = choose 53
       (λ c. place >>= λ p. if c == 0 then (skip >> (skip >> (expr items >>= λ x. pure (forms.Others p x)))) else (if c == 1 then skip >> pure (forms.Open p) else association items))

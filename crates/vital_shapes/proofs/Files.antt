@@ -1,5 +1,5 @@
 -- The reader of a file takes all of it, and its units stand along its tokens.
-use Rattle.std.proofs.Common.{◌≡◌, ℕ, List, [], Some, ap, ◌∙◌, subst, subst₂, append-nil}
+use Rattle.std.proofs.Common.{◌≡◌, ℕ, List, [], ◌++◌, length, Some, le_refl, ap, ◌∙◌, subst, subst₂, append-nil}
 use Rattle.std.specs.Option.{option_map}
 use Rattle.vital_grammar.specs.Grammar.{grammar}
 use Rattle.vital_lex.specs.declared.token_list.Token.{Token}
@@ -22,7 +22,8 @@ pub record FileRead (file : ℕ) (text : List ℕ) (tokens : List Token) (tree :
 pub file_read : (file : ℕ) (text : List ℕ) (tokens : List Token) (tree : List Step) → IsTreeOf grammar (kinds_of tokens) tree → FileRead file text tokens tree
 file_read file text tokens tree d =
     let o : Source = record { file = file; text = text } in
-    let t = taken file text tokens [] tree [] (λ n. file_units_take) d in
+    let levels = length (tree ++ []) in
+    let t = taken levels file text tokens [] tree [] (le_refl levels) file_units_take d in
     record {
       units = t.answer;
       answers = subst₂ (λ (steps : List Step) (l : List Token). file_units (record { steps = steps; tokens = l; text = text; file = file }) ≡ Some (t.answer, record { steps = []; tokens = []; text = text; file = file }))

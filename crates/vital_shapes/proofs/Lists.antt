@@ -4,7 +4,7 @@ use Rattle.vital_grammar.specs.Grammar.{grammar}
 use Rattle.vital_ll.specs.declared.grammar.Sym.{Sym}
 use Rattle.vital_ll.specs.declared.grammar.Sym.TheVariants.{Token as Word, Rule}
 use Rattle.vital_lex.specs.declared.token_list.Token.{Token}
-use Rattle.vital_shapes.specs.Reading.{Reader, ◌>>=◌, pure, lists_from, more_lists, separated}
+use Rattle.vital_shapes.specs.Reading.{Reader, ◌>>=◌, pure, lists_from, more_lists, after, more, separated}
 use Rattle.vital_shapes.proofs.Along.{Source, Along}
 use Rattle.vital_shapes.proofs.Takes.{Takes, fewer, followed, gives, claiming}
 use Rattle.vital_shapes.proofs.Steps.{◌&◌, Each, each_of, choose_down, none_left, told_left, token_first}
@@ -78,3 +78,11 @@ pub separated_take : {A : Type 0} {o : Source} {n k : ℕ} {s : Sym} {ts : List 
     ((us : List Token) → Takes o n (s ∷ []) us item (λ x ws. C us (x ∷ []) ws)) → Takes o n (s ∷ Rule r ∷ []) ts (separated item) (C ts)
 separated_take {ts = ts} r C joins led known takes = followed (takes ts) (λ x us good. lists r _ _ C joins good known
     (single (λ bs. token_first (λ cs a. claiming (takes cs) (λ y ws b. led bs cs ws y a b))) & tt))
+
+-- more, each after a token, behind any that were found
+pub more_take : {A : Type 0} {o : Source} {n k : ℕ} {s : Sym} {ts : List Token} (r : ℕ) {item : Reader A} {Q : List Token → A → List Token → Type 0} (found : List A) →
+    slice_get grammar r ≡ Some ([] ∷ (Word k ∷ s ∷ Rule r ∷ []) ∷ []) →
+    ((us : List Token) → Takes o n (s ∷ []) us item (Q us)) → Takes o n (Rule r ∷ []) ts (more (λ _. after item) found) (λ _ _. Unit {0})
+more_take {A} {ts = ts} r found known takes =
+    let Any : Claim A = λ _ _ _. Unit {0} in
+    lists r _ found Any {start = ts} (λ _ _ _ _ _ _ _. tt) tt known (single (λ bs. token_first (λ cs a. claiming (takes cs) (λ _ _ _. tt))) & tt)

@@ -14,7 +14,7 @@ use Rattle.vital_shapes.proofs.Rules as rules
 use Rattle.vital_shapes.proofs.Steps.{◌&◌, choose, none_left, told_left, token_first}
 use Rattle.vital_shapes.proofs.Takes.{Takes, followed, gives, claiming}
 
-items_within_take : (o : Source) (n : ℕ) (ts : List Token) → Takes o n (s.items ∷ []) ts (items_within n) (λ found us. Along o ts (nodes.items found) us)
+pub items_within_take : (o : Source) (n : ℕ) (ts : List Token) → Takes o n (s.items ∷ []) ts (items_within n) (λ found us. Along o ts (nodes.items found) us)
 unfolding items_within
 items_within_take o zero ts = none_left
 items_within_take o (suc n) ts = item_list_takes o n (items_within n) (items_within_take o n)

@@ -17,7 +17,7 @@ use Rattle.vital_shapes.specs.Reading.{Reader, ◌>>=◌, ◌>>◌, pure, skip, 
 use Rattle.vital_shapes.specs.Expressions.{expression, name}
 use Rattle.vital_shapes.specs.Statements.{signal_assignment, after_name, branch, otherwise, branches, if_statement, statement, statements_within, statements}
 use Rattle.vital_shapes.proofs.Along.{Source, Stands, Along, stay, joined, led, ended, along_as, Whole, one, before, Each-along, each_joined, All-along, all_joined}
-use Rattle.vital_shapes.proofs.Lists.{lists, lists_down, single}
+use Rattle.vital_shapes.proofs.Lists.{Claim, lists, lists_down, single}
 use Rattle.vital_shapes.proofs.Outermost.{expression_takes, name_takes, optional_value_takes}
 use Rattle.vital_shapes.proofs.Rules as rules
 use Rattle.vital_shapes.proofs.Steps.{◌&◌, choose, none_left, told_left, placed, token_first}
@@ -31,7 +31,7 @@ unfolding signal_assignment
 signal_assignment_takes target w = token_first (λ us a. followed expression_takes (λ value ws x. followed (optional_value_takes 35 rules.delay_is) (λ delay vs b. token_first (λ xs c.
     gives (record { target = target; value = value; after = delay }) (before w (led a (before x (ended b c))))))))
 
-after_name_takes : {o : Source} {n : ℕ} {ts us : List Token} (p : Place) (target : Reference) → Stands o ts p → Whole o ts (nodes.Name target) us →
+pub after_name_takes : {o : Source} {n : ℕ} {ts us : List Token} (p : Place) (target : Reference) → Stands o ts p → Whole o ts (nodes.Name target) us →
     Takes o n (s.seq_end ∷ []) us (after_name p target) (λ x ws. Whole o ts (nodes.Sequential x) ws)
 unfolding after_name roll-Stmt roll out-Stmt
 after_name_takes p target here w = choose 44
@@ -49,7 +49,7 @@ module _ (o : Source) (n : ℕ) (inner : Reader (List Stmt)) (inner_takes : (ts 
   branch_takes = followed expression_takes (λ condition us w. token_first (λ ws a. followed (inner_takes ws) (λ found vs b.
       gives (roll-Branch (record { condition = condition; statements = found })) (before w (led a b)))))
 
-  otherwise_takes : {ts : List Token} → Takes o n (s.else_part ∷ []) ts (otherwise inner) (λ x us. Along o ts (nodes.statements_if_there x) us)
+  pub otherwise_takes : {ts : List Token} → Takes o n (s.else_part ∷ []) ts (otherwise inner) (λ x us. Along o ts (nodes.statements_if_there x) us)
   unfolding otherwise
   otherwise_takes = choose 46 (λ form. if form == 0 then pure None else (skip >> (inner >>= λ found. pure (Some found)))) rules.else_part_is
       (gives None stay
@@ -60,6 +60,11 @@ module _ (o : Source) (n : ℕ) (inner : Reader (List Stmt)) (inner_takes : (ts 
       Takes o n (s.elsifs ∷ []) us (more (λ _. after (branch inner)) (first ∷ [])) (All-along o nodes.parts_of_branch ts)
   more_branches_take first a = lists 45 _ _ (All-along o nodes.parts_of_branch) (all_joined nodes.parts_of_branch) (joined a stay) rules.elsifs_is
       (single (λ ts. token_first (λ us b. claiming branch_takes (λ x ws c. led b (joined c stay)))) & tt)
+
+  pub any_more_branches_take : {ts : List Token} (found : List Branch) → Takes o n (s.elsifs ∷ []) ts (more (λ _. after (branch inner)) found) (λ _ _. Unit {0})
+  any_more_branches_take {ts} found =
+      let Any : Claim Branch = λ _ _ _. Unit {0} in
+      lists 45 _ found Any {start = ts} (λ _ _ _ _ _ _ _. tt) tt rules.elsifs_is (single (λ bs. token_first (λ cs a. claiming branch_takes (λ _ _ _. tt))) & tt)
 
   branches_take : {ts : List Token} → Takes o n (s.expr ∷ s.word kind.Then ∷ s.seqs ∷ s.elsifs ∷ []) ts (branches inner) (All-along o nodes.parts_of_branch ts)
   unfolding branches
@@ -79,7 +84,7 @@ module _ (o : Source) (n : ℕ) (inner : Reader (List Stmt)) (inner_takes : (ts 
       token_first (λ xs f. token_first (λ ys g. token_first (λ zs h. gives (st.If p (roll-If (record { branches = found; otherwise = last })))
       (if_whole p found last here (led a (ended (joined b c) (led f (led g h)))))))))))
 
-  statement_takes : {ts : List Token} → Takes o n (s.seq ∷ []) ts (statement inner) (λ x us. Whole o ts (nodes.Sequential x) us)
+  pub statement_takes : {ts : List Token} → Takes o n (s.seq ∷ []) ts (statement inner) (λ x us. Whole o ts (nodes.Sequential x) us)
   unfolding statement roll-Stmt roll out-Stmt
   statement_takes = choose 43
       (λ form. place >>= λ p. if form == 0 then (name >>= λ target. after_name p target) else (if form == 1 then if_statement inner p else (skip >> (skip >> pure (st.Null p)))))
@@ -93,7 +98,7 @@ module _ (o : Source) (n : ℕ) (inner : Reader (List Stmt)) (inner_takes : (ts 
   statements_down = lists_down 42 _ _ (Each-along o (λ x. nodes.Sequential x)) (each_joined (λ x. nodes.Sequential x)) stay rules.seqs_is
       (single (λ ts. claiming statement_takes (λ x us w. one w)) & tt)
 
-statements_within_take : (o : Source) (n : ℕ) (ts : List Token) → Takes o n (s.seqs ∷ []) ts (statements_within n) (λ found us. Along o ts (nodes.sequentials found) us)
+pub statements_within_take : (o : Source) (n : ℕ) (ts : List Token) → Takes o n (s.seqs ∷ []) ts (statements_within n) (λ found us. Along o ts (nodes.sequentials found) us)
 unfolding statements_within
 statements_within_take o zero ts = none_left
 statements_within_take o (suc n) ts = statements_down o n (statements_within n) (statements_within_take o n)

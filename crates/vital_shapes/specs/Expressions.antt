@@ -145,20 +145,27 @@ module _ (items : Reader (List Item)) where
     x ← factor
     pure (multiplying_of c, x)
 
+  -- { ( "*" | "/" ) factor }, after the first factor
+  unfoldable pub after_factor : Place → Expr → Reader Expr
+  after_factor p first = many next_factor >>= λ others. pure (product_of p first others)
+
   -- term = factor { ( "*" | "/" ) factor }
   unfoldable pub term : Reader Expr
   term = do
     choice
     p ← place
     first ← factor
-    others ← many next_factor
-    pure (product_of p first others)
+    after_factor p first
 
   unfoldable pub next_term : ℕ → Reader (Adding × Expr)
   next_term c = do
     skip
     x ← term
     pure (adding_of c, x)
+
+  -- { ( "+" | "-" | "&" ) term }, after the first term
+  unfoldable pub after_term : Place → Option Sign → Expr → Reader Expr
+  after_term p s first = many next_term >>= λ others. pure (sum_of p s first others)
 
   -- sum = [ "+" | "-" ] term { ( "+" | "-" | "&" ) term }
   unfoldable pub simple : Reader Expr
@@ -167,8 +174,16 @@ module _ (items : Reader (List Item)) where
     p ← place
     s ← sign_before
     first ← term
-    others ← many next_term
-    pure (sum_of p s first others)
+    after_term p s first
+
+  -- [ ( "=" | "/=" | "<" | "<=" | ">" | ">=" ) sum ], after the first sum
+  unfoldable pub after_sum : Place → Expr → Reader Expr
+  after_sum p first = do
+    c ← choice
+    if c == 0 then pure first else (do
+      skip
+      second ← simple
+      pure (e.Relation (roll-Relation (record { place = p; operator = relational_of c; left = first; right = second }))))
 
   -- rel = sum [ ( "=" | "/=" | "<" | "<=" | ">" | ">=" ) sum ]
   unfoldable pub relation : Reader Expr
@@ -176,11 +191,7 @@ module _ (items : Reader (List Item)) where
     choice
     p ← place
     first ← simple
-    c ← choice
-    if c == 0 then pure first else (do
-      skip
-      second ← simple
-      pure (e.Relation (roll-Relation (record { place = p; operator = relational_of c; left = first; right = second }))))
+    after_sum p first
 
   -- the operands from the second on: `nand` and `nor` take no more than two
   unfoldable pub operands : Expr → ℕ → Reader (List Expr)
@@ -189,16 +200,21 @@ module _ (items : Reader (List Item)) where
     second ← relation
     if nat_lt 4 c then pure (first ∷ second ∷ []) else more (λ _. after relation) (first ∷ second ∷ [])
 
+  -- [ "and" rel { "and" rel } | .. ], after the first relation
+  unfoldable pub after_relation : Place → Expr → Reader Expr
+  after_relation p first = do
+    c ← choice
+    if c == 0 then pure first else (do
+      found ← operands first c
+      pure (e.Logical p (logical_of c) found))
+
   -- expr = rel [ "and" rel { "and" rel } | .. ]
   unfoldable pub expr : Reader Expr
   expr = do
     choice
     p ← place
     first ← relation
-    c ← choice
-    if c == 0 then pure first else (do
-      found ← operands first c
-      pure (e.Logical p (logical_of c) found))
+    after_relation p first
 
   -- dir expr, after the left bound
   unfoldable pub range : Expr → Reader Range

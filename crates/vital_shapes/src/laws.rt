@@ -9,16 +9,19 @@ ghost use Rattle.vital_nodes.specs.declared.unit.Unit.{Unit as Unit'};
 ghost use Rattle.vital_shapes.specs.Reading.{kinds_of};
 ghost use Rattle.vital_shapes.specs.Shapes.{file_units, shape};
 ghost use Rattle.vital_shapes.specs.Standing.{IsAtToken, IsNotAfter, StartsRise, nodes_of_units, StandAtTokens, PlacesRise, places_of_units};
-ghost use Rattle.vital_shapes.specs.Taken.{NamesTaken, ExpressionsTaken, InterfacesTaken, DeclarationsTaken, StatementsTaken, UnitsTaken};
+ghost use Rattle.vital_shapes.specs.Taken.{NamesTaken, ExpressionsTaken, NestedItemsTaken, NestedExpressionsTaken, InterfacesTaken, DeclarationsTaken, StatementsTaken, NestedStatementsTaken, UnitsTaken};
 
-/// The reader of a rule takes all that the rule derives and leaves what stands behind it, and meets an identifier wherever it reads
-/// one: a law, called for its clauses.
+/// The reader of each rule of the grammar takes all that the rule derives and leaves what stands behind it, and meets an identifier
+/// wherever it reads one. What may be nested does so with as many levels as there are steps, or more: a law, called for its clauses.
 pub fn rules_are_taken()
     ensures names { NamesTaken }
     ensures expressions { ExpressionsTaken }
+    ensures nested_items { NestedItemsTaken }
+    ensures nested_expressions { NestedExpressionsTaken }
     ensures interfaces { InterfacesTaken }
     ensures declarations { DeclarationsTaken }
     ensures statements { StatementsTaken }
+    ensures nested_statements { NestedStatementsTaken }
     ensures units { UnitsTaken }
 {}
 
