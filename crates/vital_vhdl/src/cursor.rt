@@ -1,10 +1,11 @@
 //! A cursor over the derivation and the tokens of a file.
 
-ghost use Rattle.std.specs.Prelude.{◌≡◌, ◌≤◌, length, slice_range, Some};
+ghost use Rattle.std.specs.Prelude.{◌≡◌, ◌≤◌, length, slice_range, Some, IsTrue, IsFalse};
 ghost use Rattle.vital_nodes.specs.IdentifierNames.{IsNamedWell};
 ghost use Rattle.vital_shapes.specs.Reading as spec;
 ghost use Rattle.vital_shapes.specs.Reading.{next_token};
 ghost use Rattle.vital_vhdl.specs.Cursors.{HaveNames, HasName};
+ghost use Rattle.vital_vhdl.specs.Levels.{BeginsWithPrimary, at_primary, EndsLevels, past_levels};
 ghost use Rattle.vital_vhdl.specs.Reads.{Reads};
 
 use crate::shape_error::ShapeError;
@@ -82,6 +83,44 @@ impl<'a> Cursor<'a> {
                 self.steps = rest;
                 step.alternative
             }
+        }
+    }
+
+    /// Passes the steps from an expression to its first primary, if it begins with one. They are six: of the expression, its
+    /// first relation, sum, sign, term and factor.
+    #[tactic(auto, unfolding(vital_shapes::specs::Reading::alternative, vital_shapes::specs::Reading::past_step))]
+    pub(crate) fn pass_to_primary(&mut self) -> bool
+        ensures passes { IsTrue result → BeginsWithPrimary self.old }
+        ensures passed { IsTrue result → self.new ≡ at_primary self.old }
+        ensures stays { IsFalse result → self.new ≡ self.old }
+    {
+        match self.steps {
+            [_, _, _, sign, _, factor, rest @ ..]
+                if sign.alternative == 0 && factor.alternative != 0 => {
+                self.steps = rest;
+                true
+            }
+            _ => false,
+        }
+    }
+
+    /// Passes the steps that end the four levels of an expression after its primary, if nothing follows it.
+    #[tactic(auto, unfolding(vital_shapes::specs::Reading::alternative, vital_shapes::specs::Reading::past_step))]
+    pub(crate) fn pass_ends(&mut self) -> bool
+        ensures passes { IsTrue result → EndsLevels self.old }
+        ensures passed { IsTrue result → self.new ≡ past_levels self.old }
+        ensures stays { IsFalse result → self.new ≡ self.old }
+    {
+        match self.steps {
+            [factors, terms, relation, expression, rest @ ..]
+                if factors.alternative == 0
+                    && terms.alternative == 0
+                    && relation.alternative == 0
+                    && expression.alternative == 0 => {
+                self.steps = rest;
+                true
+            }
+            _ => false,
         }
     }
 

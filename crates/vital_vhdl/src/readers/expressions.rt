@@ -1,8 +1,9 @@
 //! Reading names and expressions. What stands in parentheses is read by a parameter, so that each rule is proved by itself.
 
-ghost use Rattle.std.specs.Prelude.{◌≡◌};
+ghost use Rattle.std.specs.Prelude.{◌≡◌, Some};
 ghost use Rattle.vital_shapes.specs.Expressions as spec;
-ghost use Rattle.vital_shapes.specs.Reading.{after, many};
+ghost use Rattle.vital_shapes.specs.Reading.{after, many, next_place};
+ghost use Rattle.vital_vhdl.specs.Levels.{outwards};
 ghost use Rattle.vital_vhdl.specs.Reads.{Reads, ReadsWithin};
 
 use crate::cursor::Cursor;
@@ -15,8 +16,8 @@ use crate::readers::operators::{
 use crate::shape_error::ShapeError;
 use sqlite_items::{Boxed, Items};
 use std::alloc::Global;
-use vital_base::Name;
-use vital_nodes::{Adding, Expr, Item, Multiplying, Reference, Relation, Suffix};
+use vital_base::{Name, Place};
+use vital_nodes::{Adding, Expr, Item, Multiplying, Reference, Relation, Sign, Suffix};
 
 /// Reads what may hold items in parentheses.
 #[derive(Clone, Copy)]
@@ -164,6 +165,20 @@ impl<F: Fn(Global, &mut Cursor<'_>, usize) -> Result<Items<Item>, ShapeError>> N
         })
     }
 
+    #[tactic(auto, unfolding(vital_shapes::specs::Expressions::after_factor))]
+    fn after_factor(
+        &self,
+        cursor: &mut Cursor<'_>,
+        place: Place,
+        first: Expr,
+    ) -> Result<Expr, ShapeError>
+        requires { ReadsWithin spec.items_within self.now.levels (F.pre self.now.items) (F.post self.now.items) }
+        ensures { Reads (spec.after_factor (spec.items_within self.now.levels) place first cursor.old) result cursor.new }
+    {
+        let others = self.factors(cursor)?;
+        Ok(product_of(self.alloc, place, first, others)?)
+    }
+
     #[tactic(auto, unfolding(vital_shapes::specs::Expressions::term))]
     fn term(&self, cursor: &mut Cursor<'_>) -> Result<Expr, ShapeError>
         requires { ReadsWithin spec.items_within self.now.levels (F.pre self.now.items) (F.post self.now.items) }
@@ -172,8 +187,7 @@ impl<F: Fn(Global, &mut Cursor<'_>, usize) -> Result<Items<Item>, ShapeError>> N
         cursor.choice();
         let place = cursor.place();
         let first = self.factor(cursor)?;
-        let others = self.factors(cursor)?;
-        Ok(product_of(self.alloc, place, first, others)?)
+        self.after_factor(cursor, place, first)
     }
 
     #[tactic(auto, unfolding(vital_shapes::specs::Expressions::next_term))]
@@ -199,6 +213,21 @@ impl<F: Fn(Global, &mut Cursor<'_>, usize) -> Result<Items<Item>, ShapeError>> N
         })
     }
 
+    #[tactic(auto, unfolding(vital_shapes::specs::Expressions::after_term))]
+    fn after_term(
+        &self,
+        cursor: &mut Cursor<'_>,
+        place: Place,
+        sign: Option<Sign>,
+        first: Expr,
+    ) -> Result<Expr, ShapeError>
+        requires { ReadsWithin spec.items_within self.now.levels (F.pre self.now.items) (F.post self.now.items) }
+        ensures { Reads (spec.after_term (spec.items_within self.now.levels) place sign first cursor.old) result cursor.new }
+    {
+        let others = self.terms(cursor)?;
+        Ok(sum_of(self.alloc, place, sign, first, others)?)
+    }
+
     #[tactic(auto, unfolding(vital_shapes::specs::Expressions::simple))]
     fn simple(&self, cursor: &mut Cursor<'_>) -> Result<Expr, ShapeError>
         requires { ReadsWithin spec.items_within self.now.levels (F.pre self.now.items) (F.post self.now.items) }
@@ -208,18 +237,19 @@ impl<F: Fn(Global, &mut Cursor<'_>, usize) -> Result<Items<Item>, ShapeError>> N
         let place = cursor.place();
         let sign = sign_before(cursor);
         let first = self.term(cursor)?;
-        let others = self.terms(cursor)?;
-        Ok(sum_of(self.alloc, place, sign, first, others)?)
+        self.after_term(cursor, place, sign, first)
     }
 
-    #[tactic(auto, unfolding(vital_shapes::specs::Expressions::relation))]
-    fn relation(&self, cursor: &mut Cursor<'_>) -> Result<Expr, ShapeError>
+    #[tactic(auto, unfolding(vital_shapes::specs::Expressions::after_sum))]
+    fn after_sum(
+        &self,
+        cursor: &mut Cursor<'_>,
+        place: Place,
+        first: Expr,
+    ) -> Result<Expr, ShapeError>
         requires { ReadsWithin spec.items_within self.now.levels (F.pre self.now.items) (F.post self.now.items) }
-        ensures { Reads (spec.relation (spec.items_within self.now.levels) cursor.old) result cursor.new }
+        ensures { Reads (spec.after_sum (spec.items_within self.now.levels) place first cursor.old) result cursor.new }
     {
-        cursor.choice();
-        let place = cursor.place();
-        let first = self.simple(cursor)?;
         let alternative = cursor.choice();
         if alternative == 0 {
             return Ok(first);
@@ -233,6 +263,17 @@ impl<F: Fn(Global, &mut Cursor<'_>, usize) -> Result<Items<Item>, ShapeError>> N
             right: second,
         };
         Ok(Expr::Relation(Boxed::new(self.alloc, relation)?))
+    }
+
+    #[tactic(auto, unfolding(vital_shapes::specs::Expressions::relation))]
+    fn relation(&self, cursor: &mut Cursor<'_>) -> Result<Expr, ShapeError>
+        requires { ReadsWithin spec.items_within self.now.levels (F.pre self.now.items) (F.post self.now.items) }
+        ensures { Reads (spec.relation (spec.items_within self.now.levels) cursor.old) result cursor.new }
+    {
+        cursor.choice();
+        let place = cursor.place();
+        let first = self.simple(cursor)?;
+        self.after_sum(cursor, place, first)
     }
 
     fn next_relation(&self, cursor: &mut Cursor<'_>) -> Result<Expr, ShapeError>
@@ -263,19 +304,76 @@ impl<F: Fn(Global, &mut Cursor<'_>, usize) -> Result<Items<Item>, ShapeError>> N
         Ok(items_of(found))
     }
 
-    #[tactic(auto, unfolding(vital_shapes::specs::Expressions::expr))]
-    pub(crate) fn expr(&self, cursor: &mut Cursor<'_>) -> Result<Expr, ShapeError>
+    #[tactic(auto, unfolding(vital_shapes::specs::Expressions::after_relation))]
+    fn after_relation(
+        &self,
+        cursor: &mut Cursor<'_>,
+        place: Place,
+        first: Expr,
+    ) -> Result<Expr, ShapeError>
         requires { ReadsWithin spec.items_within self.now.levels (F.pre self.now.items) (F.post self.now.items) }
-        ensures { Reads (spec.expr (spec.items_within self.now.levels) cursor.old) result cursor.new }
+        ensures { Reads (spec.after_relation (spec.items_within self.now.levels) place first cursor.old) result cursor.new }
     {
-        cursor.choice();
-        let place = cursor.place();
-        let first = self.relation(cursor)?;
         let alternative = cursor.choice();
         if alternative == 0 {
             return Ok(first);
         }
         let operands = self.operands(cursor, first, alternative)?;
         Ok(Expr::Logical(place, logical_of(alternative), operands))
+    }
+
+    /// An expression, level by level.
+    #[tactic(auto, unfolding(vital_shapes::specs::Expressions::expr))]
+    fn by_levels(&self, cursor: &mut Cursor<'_>) -> Result<Expr, ShapeError>
+        requires { ReadsWithin spec.items_within self.now.levels (F.pre self.now.items) (F.post self.now.items) }
+        ensures { Reads (spec.expr (spec.items_within self.now.levels) cursor.old) result cursor.new }
+    {
+        cursor.choice();
+        let place = cursor.place();
+        let first = self.relation(cursor)?;
+        self.after_relation(cursor, place, first)
+    }
+
+    /// The expression that begins with this primary.
+    fn outwards(
+        &self,
+        cursor: &mut Cursor<'_>,
+        place: Place,
+        primary: Expr,
+    ) -> Result<Expr, ShapeError>
+        requires { ReadsWithin spec.items_within self.now.levels (F.pre self.now.items) (F.post self.now.items) }
+        ensures { Reads (outwards (spec.items_within self.now.levels) place (Some (primary, cursor.old))) result cursor.new }
+    {
+        let term = self.after_factor(cursor, place, primary)?;
+        let sum = self.after_term(cursor, place, None, term)?;
+        let relation = self.after_sum(cursor, place, sum)?;
+        self.after_relation(cursor, place, relation)
+    }
+
+    /// The expression whose first primary stands here.
+    #[tactic(auto, using(crate::proofs::Straight::is_alone))]
+    fn from_primary(&self, cursor: &mut Cursor<'_>) -> Result<Expr, ShapeError>
+        requires { ReadsWithin spec.items_within self.now.levels (F.pre self.now.items) (F.post self.now.items) }
+        ensures { Reads (outwards (spec.items_within self.now.levels) (next_place cursor.old) (spec.primary (spec.items_within self.now.levels) cursor.old)) result cursor.new }
+    {
+        let place = cursor.place();
+        let primary = self.primary(cursor)?;
+        if cursor.pass_ends() {
+            return Ok(primary);
+        }
+        self.outwards(cursor, place, primary)
+    }
+
+    /// An expression. Most begin with a primary, and most of these are no more: their levels, which are empty, are passed at
+    /// once.
+    #[tactic(auto, using(crate::proofs::Straight::is_straight))]
+    pub(crate) fn expr(&self, cursor: &mut Cursor<'_>) -> Result<Expr, ShapeError>
+        requires { ReadsWithin spec.items_within self.now.levels (F.pre self.now.items) (F.post self.now.items) }
+        ensures { Reads (spec.expr (spec.items_within self.now.levels) cursor.old) result cursor.new }
+    {
+        if cursor.pass_to_primary() {
+            return self.from_primary(cursor);
+        }
+        self.by_levels(cursor)
     }
 }
