@@ -1,0 +1,5 @@
+pub mod PortLemmas
+pub mod FrontLemmas
+pub mod TailLemmas
+pub mod EdgeLemmas
+pub mod SplitLemmas

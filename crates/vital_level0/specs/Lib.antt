@@ -1,0 +1,10 @@
+pub mod Prefixes
+pub mod Directions
+pub mod Ports
+pub mod Split
+pub mod Steps
+pub mod PortIndexes
+pub mod TypeNames
+pub mod Defaults
+pub mod Clauses
+pub mod Breaches

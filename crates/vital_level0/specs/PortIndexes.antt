@@ -1,0 +1,17 @@
+-- What an index of ports holds.
+use Rattle.std.specs.Prelude.{◌≡◌, ℕ, List, Option}
+use Rattle.std.specs.Borrow.{Bor}
+use Rattle.std.specs.HashMap.{HashMap, get_by}
+use Rattle.std.specs.Str.{bytes_eq}
+use Rattle.std.specs.declared.hash.BuildHasherDefault.{BuildHasherDefault}
+use Rattle.std.specs.declared.hash.FoldHasher.{FoldHasher}
+use Rattle.vital_nodes.specs.declared.decl.Iface.{Iface}
+use Rattle.vital_level0.specs.Ports.{number_of}
+
+-- The number that a map has for a name.
+abbrev pub number_in : HashMap (Bor (List ℕ)) ℕ (BuildHasherDefault FoldHasher) → List ℕ → Option ℕ
+number_in numbers name = get_by (λ key. bytes_eq name key.now) numbers
+
+-- A map has the number of the first port of each name.
+abbrev pub Numbers : List Iface → HashMap (Bor (List ℕ)) ℕ (BuildHasherDefault FoldHasher) → Type 0
+Numbers ports numbers = (name : List ℕ) → number_in numbers name ≡ number_of ports name

@@ -1,0 +1,76 @@
+//! The types that names name.
+
+ghost use Rattle.std.specs.Prelude.{◌≡◌, is_some};
+ghost use Rattle.std.specs.Option.{option_map};
+ghost use Rattle.vital_level0.specs.TypeNames as spec;
+ghost use Rattle.vital_walk.specs.Bounds.{items_at_end};
+
+use vital_nodes::{Reference, Subtype, Suffix};
+use vital_walk::{last_identifier, literal_bounds};
+
+/// A type of delays (IEEE 1076.4, package VITAL_Timing).
+#[derive(Clone, Copy, Debug, PartialEq, Eq)]
+pub enum DelayType {
+    /// VitalDelayType: one time.
+    One,
+    /// VitalDelayType01: a time for each of two changes.
+    Two,
+    /// VitalDelayType01Z: a time for each of six changes.
+    Six,
+}
+
+/// The last identifier of a type's name.
+fn type_name(subtype: &Subtype) -> Option<&[u8]>
+    ensures { option_map (λ name. name.now) result ≡ spec.type_name subtype.now }
+{
+    match last_identifier(&subtype.name) {
+        Some(identifier) => Some(identifier.name.as_slice()),
+        None => None,
+    }
+}
+
+/// Whether a name ends in items in parentheses.
+fn has_items_at_end(name: &Reference) -> bool
+    ensures { result ≡ is_some (items_at_end name.now) }
+{
+    matches!(name.suffixes.as_slice().last(), Some(Suffix::Items(_)))
+}
+
+/// The name of a type without an index and without a range.
+pub fn plain_type(subtype: &Subtype) -> Option<&[u8]>
+    ensures { option_map (λ name. name.now) result ≡ spec.plain_type subtype.now }
+{
+    if subtype.range.is_some() || has_items_at_end(&subtype.name) {
+        return None;
+    }
+    type_name(subtype)
+}
+
+/// Whether a subtype is a vector of std_logic with one pair of literal bounds.
+pub fn is_vector(subtype: &Subtype) -> bool
+    ensures { result ≡ spec.is_vector subtype.now }
+{
+    if literal_bounds(subtype).is_none() {
+        return false;
+    }
+    match type_name(subtype) {
+        Some(name) => name == b"std_logic_vector".as_slice(),
+        None => false,
+    }
+}
+
+/// The type of delays that a subtype is.
+pub fn delay_type(subtype: &Subtype) -> Option<DelayType>
+    ensures { result ≡ spec.delay_type subtype.now }
+{
+    let name = plain_type(subtype)?;
+    if name == b"vitaldelaytype".as_slice() {
+        Some(DelayType::One)
+    } else if name == b"vitaldelaytype01".as_slice() {
+        Some(DelayType::Two)
+    } else if name == b"vitaldelaytype01z".as_slice() {
+        Some(DelayType::Six)
+    } else {
+        None
+    }
+}
