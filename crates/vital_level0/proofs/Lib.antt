@@ -3,3 +3,5 @@ pub mod FrontLemmas
 pub mod TailLemmas
 pub mod EdgeLemmas
 pub mod SplitLemmas
+pub mod BreachLemmas
+pub mod OrderLemmas

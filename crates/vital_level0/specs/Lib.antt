@@ -8,3 +8,4 @@ pub mod TypeNames
 pub mod Defaults
 pub mod Clauses
 pub mod Breaches
+pub mod Found

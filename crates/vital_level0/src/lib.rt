@@ -1,9 +1,11 @@
 //! Level 0 of VITAL (IEEE 1076.4): how the names of timing generics split, and where an entity breaks a clause.
 #![tactic(auto)]
 
+mod breaches;
 mod declaration;
 mod default_value;
 mod direction;
+mod found;
 mod generic_clauses;
 mod parts;
 mod port_clauses;
@@ -11,6 +13,7 @@ mod port_index;
 mod split;
 mod type_name;
 
+pub use breaches::breaches0;
 pub use parts::{Edge, Parts, Prefix};
 pub use port_index::PortIndex;
 pub use split::{one_splitting, split_generic};

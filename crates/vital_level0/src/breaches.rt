@@ -1,0 +1,24 @@
+//! Where an entity breaks the clauses of Level 0.
+
+ghost use Rattle.std.specs.Prelude.{IfOk};
+ghost use Rattle.std.specs.List.{Contains};
+ghost use Rattle.vital_base.specs.declared.breach.Breach.{Breach as Breach'};
+ghost use Rattle.vital_level0.specs.Breaches.{IsBreach, Rises};
+
+use crate::found::of_entity;
+use std::alloc::{AllocError, Global};
+use vital_base::{Breaches, List};
+use vital_nodes::Entity;
+
+/// All breaches of Level 0 in an entity, each once, by place and then by clause. Each generic, port, declaration and statement is
+/// looked at once, and only what was found is put in order.
+pub fn breaches0(alloc: Global, entity: &Entity) -> Result<Breaches, AllocError>
+    ensures all { IfOk result (λ breaches. (b : Breach') → IsBreach entity.now b → Contains breaches b) }
+    ensures only { IfOk result (λ breaches. (b : Breach') → Contains breaches b → IsBreach entity.now b) }
+    ensures order { IfOk result (λ breaches. Rises breaches) }
+{
+    let mut found = of_entity(alloc, entity)?;
+    found.sort_unstable();
+    found.dedup();
+    Ok(List::new(found))
+}
