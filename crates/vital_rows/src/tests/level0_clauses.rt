@@ -1,0 +1,67 @@
+//! Entities beside the clauses of Level 0 that they break.
+
+ghost use Rattle.std.specs.Prelude.{◌≡◌};
+ghost use Rattle.vital_grammar.specs.Grammar.{grammar};
+
+use super::level0_one_to_six::ONE_TO_SIX;
+use super::level0_seven_to_ten::SEVEN_TO_TEN;
+use std::alloc::Global;
+use std::test::Fail;
+use vital_level0::breaches0;
+use vital_ll::Rules;
+use vital_vhdl::{Role, Unit, UnitError, read_units, vhdl_rules};
+
+/// An entity that breaks nothing. Line 1 is at index 0.
+const GOOD: [&str; 5] = [
+    "entity E is",
+    "  generic (tpd_A_Y : VitalDelayType01; XOn : Boolean);",
+    "  port (A, B : in STD_ULOGIC; Y : out STD_ULOGIC);",
+    "  attribute VITAL_LEVEL0 of E : entity is TRUE;",
+    "end E;",
+];
+
+/// Lines that stand in place of those of the good entity, and the breaches then: line, column and the number behind `L0.`.
+pub(super) type Row = (&'static [(usize, &'static str)], &'static [(u32, u32, u8)]);
+
+/// The line, the column and the clause of each breach of an entity in which these lines are others.
+fn breaches(
+    alloc: Global,
+    rules: &Rules,
+    edits: &[(usize, &str)],
+) -> Result<Vec<(u32, u32, u8)>, UnitError>
+    requires { rules.now ≡ grammar }
+{
+    let mut text = String::new(alloc);
+    for (index, good) in GOOD.iter().enumerate() {
+        let line = index.wrapping_add(1);
+        let edit = edits.iter().find(|edit| edit.0 == line);
+        text.push_str(edit.map_or(good, |edit| edit.1))?;
+        text.push_str("\n")?;
+    }
+    if text.len() > 1000 {
+        return Err(UnitError::NoMemory);
+    }
+    let read = read_units(alloc, rules, 0, Role::Lib, text.as_bytes(), 1000)?;
+    let [Unit::Entity(entity)] = read.units.as_slice() else {
+        return Err(UnitError::NoMemory);
+    };
+    let mut found = Vec::new(alloc);
+    for breach in breaches0(alloc, entity)?.as_slice() {
+        let place = breach.place;
+        found.push((place.line, place.column, breach.clause.number))?;
+    }
+    Ok(found)
+}
+
+#[test]
+fn each_clause_is_broken_at_its_places(rt: HostRuntime) -> Result<(), Fail> {
+    let rules = vhdl_rules(rt.alloc())?;
+    let tables: [&[Row]; 2] = [&ONE_TO_SIX, &SEVEN_TO_TEN];
+    for table in tables {
+        for (edits, expected) in table {
+            let found = breaches(rt.alloc(), &rules, edits)?;
+            assert_eq!(rt; found.as_slice(), *expected, "{edits:?}");
+        }
+    }
+    Ok(())
+}
