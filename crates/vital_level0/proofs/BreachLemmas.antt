@@ -22,18 +22,18 @@ use Rattle.vital_level0.proofs.SplitLemmas.{sound, complete}
 
 -- ---- lists
 
-either : {A B C : Type 0} → (A → C) → (B → C) → A ⊎ B → C
+pub either : {A B C : Type 0} → (A → C) → (B → C) → A ⊎ B → C
 either f g (inl a) = f a
 either f g (inr b) = g b
 
-none-in-nil : {X : Type 0} (x : X) → Contains [] x → ⊥
+pub none-in-nil : {X : Type 0} (x : X) → Contains [] x → ⊥
 none-in-nil x h = absurd (omega (arith, h.1))
 
 one-at : {X : Type 0} (x y : X) (k : ℕ) → k < 1 → get_or (x ∷ []) k y ≡ y → x ≡ y
 one-at x y zero within is = is
 one-at x y (suc k) within is = absurd (omega (arith, within))
 
-in-one : {X : Type 0} (x y : X) → Contains (x ∷ []) y → x ≡ y
+pub in-one : {X : Type 0} (x y : X) → Contains (x ∷ []) y → x ≡ y
 in-one x y h = one-at x y h.0 h.1 h.2
 
 -- what a function gives for each element of a list

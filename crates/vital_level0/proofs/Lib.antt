@@ -5,3 +5,5 @@ pub mod EdgeLemmas
 pub mod SplitLemmas
 pub mod BreachLemmas
 pub mod OrderLemmas
+mod FirstLemmas
+mod FirstBreaches

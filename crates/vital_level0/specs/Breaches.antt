@@ -1,7 +1,8 @@
 -- Breaches of Level 0, and their order.
-use Rattle.std.specs.Prelude.{◌≡◌, ℕ, true, List}
+use Rattle.std.specs.Prelude.{◌≡◌, ◌≢◌, ℕ, true, List, Option, Some, None}
 use Rattle.std.specs.Ordering.{nat_cmp, ordering_then}
 use Rattle.std.specs.declared.cmp.Ordering.{Ordering}
+use Rattle.std.specs.declared.cmp.Ordering.TheVariants.{Less}
 use Rattle.std.specs.List.Sorted.{IsStrictlySortedBy}
 use Rattle.vital_base.specs.declared.place.Place.{Place}
 use Rattle.vital_nodes.specs.declared.unit.Entity.{Entity}
@@ -39,3 +40,12 @@ compare a b = ordering_then (compare_places a.place b.place) (compare_clauses a.
 -- Each breach stands before those after it.
 abbrev pub Rises : List Breach → Type 0
 Rises breaches = IsStrictlySortedBy compare breaches
+
+-- The first breach of an entity, which no other comes before; there is none where no clause is broken.
+abbrev pub IsFirst : Entity → Option Breach → Type 0
+IsFirst e None = (b : Breach) → ¬ IsBreach e b
+IsFirst e (Some first) = IsBreach e first × ((b : Breach) → IsBreach e b → compare b first ≢ Less)
+
+-- Each entity has one first breach, or none.
+abbrev pub HasOneFirst : Type 0
+HasOneFirst = (e : Entity) → (first : Option Breach) × IsFirst e first × ((other : Option Breach) → IsFirst e other → other ≡ first)

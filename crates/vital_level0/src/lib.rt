@@ -13,7 +13,7 @@ mod port_index;
 mod split;
 mod type_name;
 
-pub use breaches::breaches0;
+pub use breaches::{breaches0, one_first_breach};
 pub use parts::{Edge, Parts, Prefix};
 pub use port_index::PortIndex;
 pub use split::{one_splitting, split_generic};

@@ -6,6 +6,7 @@ use Rattle.std.proofs.lemmas.List.Sorted.{Contains-permutation, IsPermutation-sy
 use Rattle.vital_base.specs.contracts.breach.BreachEq.TheImpl.Laws.{laws-law}
 use Rattle.vital_base.specs.contracts.breach.BreachOrd.TheImpl.Laws.{matches_eq-law, total-law}
 use Rattle.vital_level0.proofs.BreachLemmas.{breach-is-found, found-is-breach}
+use Rattle.vital_level0.proofs.FirstBreaches.{first-of-breaches}
 use Rattle.vital_level0.proofs.OrderLemmas.{same-breach}
 use Rattle.vital_level0.proofs.breaches.breaches0.Goals as goal
 
@@ -27,3 +28,6 @@ returns-clause-only c =
 pub returns-clause-order : goal.returns-clause-order
 returns-clause-order c =
     rw (c.new.ensures, dedup_is _ _ _ c.dedup.ensures.filtered) (IsStrictlySortedBy-dedup total-law matches_eq-law _ c.sort_unstable.ensures.sorted)
+
+pub returns-clause-first : goal.returns-clause-first
+returns-clause-first c = first-of-breaches c.args.entity.now _ (returns-clause-all c) (returns-clause-only c) (returns-clause-order c)
