@@ -11,6 +11,7 @@ mod limits;
 mod shapes;
 mod statements;
 mod units;
+mod upward;
 
 ghost use Rattle.std.specs.Prelude.{◌≡◌};
 ghost use Rattle.vital_grammar.specs.Grammar.{grammar};

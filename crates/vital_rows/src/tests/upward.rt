@@ -1,0 +1,54 @@
+//! A tree made by hand, and what is made of its nodes upwards.
+
+ghost use Rattle.std.specs.Prelude.{◌-◌, List, length};
+ghost use Rattle.std.specs.List.{slice_get};
+ghost use Rattle.std.specs.Option.{option_map_or};
+ghost use Rattle.vital_base.specs.declared.place.Place.{Place as Place'};
+ghost use Rattle.vital_nodes.specs.Places.{place_of};
+
+use sqlite_items::{Boxed, Items};
+use std::alloc::AllocError;
+use std::test::Fail;
+use vital_base::Place;
+use vital_nodes::{Choice, Expr, Item, Logical};
+use vital_walk::{HasPlace, Node, UpwardRule, fold_up};
+
+/// Where the last node in a node stands.
+struct LastPlace;
+
+impl<'a> UpwardRule<'a> for LastPlace {
+    type Value = Place;
+
+    ghost step = { λ rule v parts. option_map_or (λ place. place) (slice_get parts (length parts - 1)) (place_of v) };
+
+    fn value(&self, node: Node<'a>, parts: &[Place]) -> Result<Place, AllocError> {
+        match parts.last() {
+            Some(place) => Ok(*place),
+            None => Ok(node.place()),
+        }
+    }
+}
+
+fn at(column: u32) -> Place {
+    Place {
+        file: 0,
+        line: 1,
+        column,
+    }
+}
+
+/// `'0' and ('1' or 'X') and not '0'`, with the places of its nodes.
+#[test]
+fn a_value_is_made_of_the_values_of_parts_in_order(rt: HostRuntime) -> Result<(), Fail> {
+    let alloc = rt.alloc();
+    let either = vec![in alloc; Expr::Character(at(10), b'1'), Expr::Character(at(17), b'X')]?;
+    let either = Expr::Logical(at(10), Logical::Or, Items::from_vec(either));
+    let items = vec![in alloc; Item::Positional(Choice::Value(either))]?;
+    let parenthesized = Expr::Parenthesized(at(9), Items::from_vec(items));
+    assert_eq!(rt; fold_up(alloc, Node::Expression(&parenthesized), &LastPlace)?, at(17));
+    let negated = Expr::Not(at(26), Boxed::new(alloc, Expr::Character(at(30), b'0'))?);
+    let operands = vec![in alloc; Expr::Character(at(1), b'0'), parenthesized, negated]?;
+    let whole = Expr::Logical(at(1), Logical::And, Items::from_vec(operands));
+    assert_eq!(rt; fold_up(alloc, Node::Expression(&whole), &LastPlace)?, at(30));
+    Ok(())
+}
