@@ -151,7 +151,7 @@ pub const EXPRESSIONS: [Row; 44] = [
 ];
 
 /// Files with declarations, statements and units.
-pub const FILES: [Row; 5] = [
+pub const FILES: [Row; 6] = [
     (
         "entity E is\n generic (G : T := A);\n port (constant A, B : in T;\n signal C : out T bus;\n D : inout T range 0 to 1;\n F : buffer T;\n H : linkage T;\n I : T);\nend;",
         "entity 1:1 e | interface 2:11 g in | name 2:15 t | reference 2:20 | name 2:20 a | interface 3:17 a, constant in | interface 3:20 b constant in | name 3:27 t | interface 4:9 c signal out bus | name 4:17 t | interface 5:2 d inout to | name 5:12 t | number 5:20 0 | number 5:25 1 | interface 6:2 f buffer | name 6:13 t | interface 7:2 h linkage | name 7:14 t | interface 8:2 i in | name 8:6 t",
@@ -171,5 +171,9 @@ pub const FILES: [Row; 5] = [
     (
         "library IEEE, W;\nuse IEEE.STD.all, W.all;\nentity E is end entity E;\nentity F is begin P; end F;\narchitecture A of E is begin end architecture A;\narchitecture B of E is begin end B;\nlibrary W;\npackage P is end package P;\npackage Q is end;\nuse W.all;\nconfiguration C of E is for A end for; end configuration C;\nconfiguration D of F is for B end for; end;\nentity G is end;",
         "entity 3:1 e | entity 4:1 f | call 4:19 | name 4:19 p | architecture 5:1 a of e | architecture 6:1 b of e | package 8:1 p | package 9:1 q | configuration 11:1 c of e for a | configuration 12:1 d of f for b | entity 13:1 g",
+    ),
+    (
+        "library W; entity E is end; package P is end; architecture A of E is begin end; configuration C of E is for A end for; end;",
+        "entity 1:12 e | package 1:29 p | architecture 1:47 a of e | configuration 1:81 c of e for a",
     ),
 ];
