@@ -35,7 +35,7 @@ pub(crate) fn relational_of(alternative: u16) -> Relational
 }
 
 #[tactic(auto, unfolding(vital_shapes::specs::Expressions::sign_of))]
-pub(crate) fn sign_of(alternative: u16) -> Sign
+fn sign_of(alternative: u16) -> Sign
     ensures { result ≡ spec.sign_of alternative }
 {
     match alternative {
