@@ -1,10 +1,13 @@
 pub mod Rising
 pub mod Least
 pub mod CycleStates
-pub mod Written
+pub mod Texts
 pub mod Sending
 pub mod OneCycle
 pub mod Printing
+pub mod Finishing
+pub mod Refusing
+pub mod Running
 pub mod Loaded
 pub mod OneRun
 pub mod OneAnswer

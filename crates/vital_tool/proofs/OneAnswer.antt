@@ -1,7 +1,8 @@
 -- Words and files have one answer, since each text has one reading.
-use Rattle.std.proofs.Common.{◌≡◌, ℕ, ◌+◌, ◌-◌, List, [], ◌∷◌, map, Option, Some, None, Result, Ok, Err, refl, ap, subst, ◌∙◌}
+use Rattle.std.proofs.Common.{◌≡◌, ℕ, ◌+◌, ◌-◌, List, [], ◌∷◌, map, Option, Some, None, Result, Ok, Err, refl, sym, ap, subst, ◌∙◌}
 use Rattle.std.specs.List.{slice_get}
 use Rattle.vital_base.specs.Shelves.{Files}
+use Rattle.vital_base.specs.Sinks.{Told}
 use Rattle.vital_base.specs.declared.place.Place.{Place}
 use Rattle.vital_library.specs.Faults.{least_of, faults}
 use Rattle.vital_library.specs.Gathered.{gathered, limited, judged, refusal}
@@ -21,7 +22,7 @@ use Rattle.vital_stim.specs.declared.stimuli.Stimuli.{Stimuli}
 use Rattle.vital_tool.specs.Answer.{Answer, ◌>>=◌, text_of, refused, not_there}
 use Rattle.vital_tool.specs.Cells.{cells_answer}
 use Rattle.vital_tool.specs.Loading.{all_loaded}
-use Rattle.vital_tool.specs.Outcome.{Gives}
+use Rattle.vital_tool.specs.Outcome.{Gives, memory_failed}
 use Rattle.vital_tool.specs.Play.{port_signal}
 use Rattle.vital_tool.specs.Ports.{port_run}
 use Rattle.vital_tool.specs.Reading.{Continues, IsReadAs, AreRead}
@@ -35,7 +36,7 @@ use Rattle.vital_tool.specs.declared.refusal.Refusal.TheVariants as refusals
 use Rattle.vital_tool.specs.declared.status.Status.{Status}
 use Rattle.vital_tool.specs.declared.status.Status.TheVariants.{Done, Stimulus, NoMemory}
 use Rattle.vital_tool.proofs.OneRun.{one_run, started, stimuli_run}
-use Rattle.vital_tool.proofs.Printing.{prints_nothing}
+use Rattle.vital_tool.proofs.Texts.{appended-nil}
 use Rattle.vital_vhdl.specs.Outcomes.{IsReading}
 use Rattle.vital_vhdl.specs.declared.read.UnitError.{UnitError}
 use Rattle.vital_vhdl.specs.declared.read.UnitError.TheVariants as unit_error
@@ -167,13 +168,13 @@ one_job_answer reads files (Ok job) = one_loaded_answer reads job (all_loaded fi
 one_job_answer reads files (Err fault) = one_is (refused_words fault)
 
 -- what is given for every answer is given for the one that there is
-pub given : OneReading → (words : List (List ℕ)) (files : Files) (j : Result Job UsageFault) (status : Status) (old new : Option (List ℕ)) → job words ≡ j
-    → ((answer : Answer) → IsJobAnswer files j answer → Gives answer status old new) → (answer : Answer) × IsOnlyAnswer words files answer × Gives answer status old new
-given reads words files j status old new e gives =
+pub given : OneReading → (words : List (List ℕ)) (files : Files) (status : Status) (old new : Told)
+    → ((answer : Answer) → IsJobAnswer files (job words) answer → Gives answer status old new) → (answer : Answer) × IsOnlyAnswer words files answer × Gives answer status old new
+given reads words files status old new gives =
     let p = one_job_answer reads files (job words) in
-    (p.0, record { is = p.1; only = p.2 }, gives p.0 (subst (λ (x : Result Job UsageFault). IsJobAnswer files x p.0) e p.1))
+    (p.0, record { is = p.1; only = p.2 }, gives p.0 p.1)
 
 -- where memory ran out nothing is given, which is a prefix of the answer
-pub nothing_given : OneReading → (words : List (List ℕ)) (files : Files) (told : Option (List ℕ)) → (answer : Answer) × IsOnlyAnswer words files answer × Gives answer NoMemory told told
+pub nothing_given : OneReading → (words : List (List ℕ)) (files : Files) (told : Told) → (answer : Answer) × IsOnlyAnswer words files answer × Gives answer NoMemory told told
 nothing_given reads words files told =
-    given reads words files (job words) NoMemory told told refl (λ answer is. (prints_nothing (IsJobAnswer files (job words)) (record { told = told; faults = 0 })).gives answer is)
+    given reads words files NoMemory told told (λ answer is. memory_failed refl (0, sym (appended-nil told)))

@@ -1,49 +1,47 @@
 -- A text that calls write part by part.
-use Rattle.std.proofs.Common.{◌≡◌, ℕ, ◌+◌, ◌<◌, ◌≤◌, List, [], ◌∷◌, ◌++◌, length, drop, get_or, map, Result, Ok, Err, refl, sym, ap, subst, ◌∙◌, append_assoc}
+use Rattle.std.proofs.Common.{◌≡◌, ℕ, ◌+◌, ◌<◌, ◌≤◌, false, List, [], ◌∷◌, ◌++◌, length, drop, get_or, map, Result, Ok, Err, refl, sym, ap, subst, ◌∙◌, append_assoc}
 use Rattle.std.proofs.lemmas.Grind.{flat_map-append}
-use Rattle.std.proofs.lemmas.List.{drop_more, drop_all}
+use Rattle.std.proofs.lemmas.List.{append-nil, drop_more, drop_all}
 use Rattle.std.specs.Result.{IsErrAnd}
 use Rattle.std.proofs.lemmas.Result.{err_from_is_err_and}
-use Rattle.vital_base.specs.Faults.{Rose}
 use Rattle.vital_base.specs.declared.ports.PortBit.{PortBit}
 use Rattle.vital_report.specs.Lines.{version, init, end, bytes_of}
-use Rattle.vital_report.specs.Reporters.{ReporterState}
+use Rattle.vital_report.specs.Reporters.{PrinterState, Printed, Stopped, Prints}
 use Rattle.vital_tool.specs.Driver.{Driver}
 use Rattle.vital_tool.specs.Answer.{text_of}
 use Rattle.vital_tool.specs.Stimuli.{event_line}
 use Rattle.vital_tool.specs.Ports.{port_inits, port_run, port_lines, cycles_text}
-use Rattle.vital_tool.specs.Writes.{SinkState, ready, Writes, WritesAll, WritesPrefix}
 use Rattle.vital_tool.proofs.Printing.{text_of_events}
-use Rattle.vital_tool.proofs.Written.{Written, begins, goes_on, stops, ends}
+use Rattle.vital_tool.proofs.Texts.{printed_none, printed_then, stopped_then, stopped_within}
 
--- a front of a whole text was written with no fault, and this rest of it is left
-pub record Part (start : SinkState) (whole rest : List ℕ) (now : SinkState) : Type 0 where
-  pub written : Written start.told whole rest now.told
-  pub faults : now.faults ≡ start.faults
+-- a front of a whole text was printed, and this rest of it is left
+pub record Part (start : PrinterState) (whole rest : List ℕ) (now : PrinterState) : Type 0 where
+  pub front : List ℕ
+  pub parts : front ++ rest ≡ whole
+  pub printed : Printed front start now
 
-pub part_begins : (start : SinkState) (whole : List ℕ) → Part start whole whole start
-part_begins start whole = record { written = begins start.told whole; faults = refl }
+pub part_begins : (start : PrinterState) (whole : List ℕ) → start.stopped ≡ false → Part start whole whole start
+part_begins start whole going = record { front = []; parts = refl; printed = printed_none start going }
 
 -- one piece more
-pub part_goes_on : (start : SinkState) (whole piece rest : List ℕ) (now next : SinkState) (reporter : ReporterState) → Part start whole (piece ++ rest) now → WritesAll piece now next reporter → Part start whole rest next
-part_goes_on start whole piece rest now next reporter p w =
+pub part_goes_on : (start : PrinterState) (whole piece rest : List ℕ) (now next : PrinterState) → Part start whole (piece ++ rest) now → Printed piece now next → Part start whole rest next
+part_goes_on start whole piece rest now next p more =
     record {
-      written = goes_on start.told whole piece rest now.told next.told p.written w.told;
-      faults = w.faults ∙ p.faults;
+      front = p.front ++ piece;
+      parts = append_assoc p.front piece rest ∙ p.parts;
+      printed = printed_then p.front piece start now next p.printed more;
     }
 
 -- a prefix of one piece more
-pub part_stops : (start : SinkState) (whole piece rest : List ℕ) (now next : SinkState) → Part start whole (piece ++ rest) now → WritesPrefix piece now next → WritesPrefix whole start next
-part_stops start whole piece rest now next p w =
-    record {
-      told = stops start.told whole piece rest now.told next.told p.written w.told;
-      rose = subst (λ (count : ℕ). Rose count next.faults) p.faults w.rose;
-      never_falls = subst (λ (count : ℕ). count ≤ next.faults) p.faults w.never_falls;
-    }
+pub part_stops : (start : PrinterState) (whole piece rest : List ℕ) (now next : PrinterState) → Part start whole (piece ++ rest) now → Stopped piece now next → Stopped whole start next
+part_stops start whole piece rest now next p failed =
+    subst (λ (text : List ℕ). Stopped text start next) (append_assoc p.front piece rest ∙ p.parts)
+    (stopped_within (p.front ++ piece) rest start next (stopped_then p.front piece start now next p.printed failed))
 
 -- nothing is left
-pub part_ends : (start : SinkState) (whole : List ℕ) (now : SinkState) (reporter : ReporterState) → reporter ≡ ready → Part start whole [] now → WritesAll whole start now reporter
-part_ends start whole now reporter is p = record { told = ends start.told whole now.told p.written; faults = p.faults; is_ready = is }
+pub part_ends : (start : PrinterState) (whole : List ℕ) (now : PrinterState) → Part start whole [] now → Printed whole start now
+part_ends start whole now p =
+    subst (λ (text : List ℕ). Printed text start now) (sym (append-nil p.front) ∙ p.parts) p.printed
 
 -- the text of the values of ports
 abbrev pub inits_text : List PortBit → List Driver → List ℕ
@@ -75,15 +73,20 @@ run_text ports ds until =
     (flat_map-append bytes_of (map event_line happened) (end until ∷ []) ∙ ap (λ (front : List ℕ). front ++ (bytes_of (end until) ++ [])) (text_of_events happened)))
 
 -- the last piece
-pub writes_last : {T E : Type 0} (r : Result T E) (start : SinkState) (whole piece : List ℕ) (now next : SinkState) (reporter : ReporterState) → Part start whole (piece ++ []) now → Writes r piece now next reporter → Writes r whole start next reporter
-writes_last (Ok x) start whole piece now next reporter p w = part_ends start whole next reporter w.is_ready (part_goes_on start whole piece [] now next reporter p w)
-writes_last (Err e) start whole piece now next reporter p w = part_stops start whole piece [] now next p w
+pub prints_last : {T E : Type 0} (r : Result T E) (start : PrinterState) (whole piece : List ℕ) (now next : PrinterState) → Part start whole (piece ++ []) now → Prints r piece now next → Prints r whole start next
+prints_last (Ok x) start whole piece now next p w = part_ends start whole next (part_goes_on start whole piece [] now next p w)
+prints_last (Err e) start whole piece now next p w = part_stops start whole piece [] now next p w
 
 -- a fault that is passed on
-pub writes_failed : {T E : Type 0} (Q : E → Type 0) (r : Result T E) (whole : List ℕ) (start next : SinkState) (reporter : ReporterState) → IsErrAnd r Q → WritesPrefix whole start next → Writes r whole start next reporter
-writes_failed Q r whole start next reporter failed w = let p = err_from_is_err_and r failed in rw p.1 w
+pub prints_failed : {T E : Type 0} (Q : E → Type 0) (r : Result T E) (whole : List ℕ) (start next : PrinterState) → IsErrAnd r Q → Stopped whole start next → Prints r whole start next
+prints_failed Q r whole start next failed w = let p = err_from_is_err_and r failed in rw p.1 w
 
-pub run_begins : (ports : List PortBit) (ds : List Driver) (until : ℕ) (start : SinkState) → Part start (text_of (port_lines ports ds until)) (bytes_of version ++ after_version ports ds until) start
-run_begins ports ds until start =
-    let whole = text_of (port_lines ports ds until) in
-    subst (λ (rest : List ℕ). Part start whole rest start) (run_text ports ds until) (part_begins start whole)
+-- the first line of a run, from any printer on
+pub run_begins : (ports : List PortBit) (ds : List Driver) (until : ℕ) (start next : PrinterState) → Printed (bytes_of version) start next
+    → Part start (text_of (port_lines ports ds until)) (after_version ports ds until) next
+run_begins ports ds until start next p = record { front = bytes_of version; parts = sym (run_text ports ds until); printed = p }
+
+pub run_stops : (ports : List PortBit) (ds : List Driver) (until : ℕ) (start next : PrinterState) → Stopped (bytes_of version) start next
+    → Stopped (text_of (port_lines ports ds until)) start next
+run_stops ports ds until start next p =
+    subst (λ (text : List ℕ). Stopped text start next) (sym (run_text ports ds until)) (stopped_within (bytes_of version) (after_version ports ds until) start next p)

@@ -9,7 +9,6 @@ pub mod Reading
 pub mod Stimuli
 pub mod Cells
 pub mod Stages
-pub mod Returned
-pub mod Writes
+pub mod Given
 pub mod Outcome
 pub mod Ports

@@ -4,11 +4,11 @@ use Rattle.vital_logic.specs.declared.level.Level.{Level}
 use Rattle.vital_logic.specs.declared.level.Level.TheVariants.{X}
 use Rattle.vital_report.specs.Lines.{Said, version, init, event, end, refused_stimulus, bytes_of}
 use Rattle.vital_report.specs.declared.line.StimulusWhy.{StimulusWhy}
-use Rattle.vital_report.specs.declared.line.StimulusWhy.TheVariants.{BadLine, BadUnit, TooLarge, BadValue, Falls}
+use Rattle.vital_report.specs.declared.line.StimulusWhy.TheVariants as printed
 use Rattle.vital_stim.specs.Stimuli.{stim}
 use Rattle.vital_stim.specs.declared.fault.StimFault.{StimFault}
 use Rattle.vital_stim.specs.declared.fault.StimWhy.{StimWhy}
-use Rattle.vital_stim.specs.declared.fault.StimWhy.TheVariants.{Line, Unit as UnknownUnit, TimeLarge, Value, TimeFalls}
+use Rattle.vital_stim.specs.declared.fault.StimWhy.TheVariants as why
 use Rattle.vital_stim.specs.declared.stimuli.Stimuli.{Stimuli}
 use Rattle.vital_tool.specs.declared.status.Status.TheVariants.{Done, Stimulus}
 use Rattle.vital_tool.specs.Answer.{Answer, text_of, refused}
@@ -17,11 +17,11 @@ use Rattle.vital_tool.specs.Play.{port_signal, after_initial_run}
 
 -- Why a stimulus file is refused, as it is printed.
 abbrev pub printed_why : StimWhy → StimulusWhy
-printed_why Line = BadLine
-printed_why UnknownUnit = BadUnit
-printed_why TimeLarge = TooLarge
-printed_why Value = BadValue
-printed_why TimeFalls = Falls
+printed_why why.Line = printed.Line
+printed_why why.Unit = printed.Unit
+printed_why why.Large = printed.Large
+printed_why why.Value = printed.Value
+printed_why why.Falls = printed.Falls
 
 abbrev pub init_line : Signal → Said
 init_line signal = init signal.name signal.value

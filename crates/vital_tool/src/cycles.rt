@@ -1,18 +1,17 @@
 //! A run of stimuli alone: each port is a signal with one driver.
 
-ghost use Rattle.std.specs.Prelude.{◌≡◌, ◌-◌, ◌^◌, ◌<◌, length, map, All, IfOk, OnOk};
+ghost use Rattle.std.specs.Prelude.{◌≡◌, ◌-◌, ◌^◌, ◌<◌, false, length, map, All, IfOk, OnOk};
 ghost use Rattle.vital_tool.specs.Answer.{text_of};
 ghost use Rattle.vital_tool.specs.Driver.{RisesFrom, AllRise, advance, least, next_time, pending_times};
 ghost use Rattle.vital_tool.specs.Ports.{idle_drivers, sent_to, port_inits, port_lines, port_text, cycle_text, cycles_text};
 ghost use Rattle.vital_tool.specs.Run.{delta_at, up_to};
-ghost use Rattle.vital_tool.specs.Writes.{Writes, ready};
+ghost use Rattle.vital_report.specs.Reporters.{Prints};
 
 use crate::driver::{Driver, next_time, sooner};
-use crate::lines::put_line;
 use std::alloc::{AllocError, Global};
 use vital_base::{PortBit, Sink, Time, WriteFault};
 use vital_logic::{Level, from_byte};
-use vital_report::{Line, Reporter};
+use vital_report::{Line, Printer};
 use vital_stim::{StimLine, Stimuli};
 
 /// The drivers of the ports of stimuli after the initial run, in which each line is assigned to the driver of its port.
@@ -48,75 +47,61 @@ fn send_all(drivers: &mut [Driver], lines: &[StimLine]) -> Result<(), AllocError
     Ok(())
 }
 
-/// Runs the drivers of the ports up to the end time, and writes the lines of the run.
+/// Runs the drivers of the ports up to the end time, and prints the lines of the run.
 pub fn play<K: Sink>(
     ports: &[PortBit],
     drivers: &mut [Driver],
     until: Time,
-    report: &mut Reporter,
-    sink: &mut K,
+    printer: &mut Printer<'_, K>,
 ) -> Result<(), WriteFault>
     requires one_each { length ports.now ≡ length drivers.old }
     requires rise { AllRise 0 drivers.old }
-    requires ready { report.old ≡ ready }
-    ensures { Writes result (text_of (port_lines ports.now drivers.old until))
-        (record { told = K.bytes sink.old; faults = K.faults sink.old })
-        (record { told = K.bytes sink.new; faults = K.faults sink.new }) report.new }
+    ensures { Prints result (text_of (port_lines ports.now drivers.old until)) printer.old printer.new }
 {
-    put_line(&Line::Version, report, sink)?;
-    put_inits(ports, drivers, report, sink)?;
-    run_cycles(ports, drivers, until, report, sink)?;
-    put_line(&Line::End { time: until }, report, sink)
+    printer.print(&Line::Version)?;
+    print_inits(ports, drivers, printer)?;
+    run_cycles(ports, drivers, until, printer)?;
+    printer.print(&Line::End { time: until })
 }
 
-/// Writes the value of each port.
-fn put_inits<K: Sink>(
+/// Prints the value of each port.
+fn print_inits<K: Sink>(
     ports: &[PortBit],
     drivers: &[Driver],
-    report: &mut Reporter,
-    sink: &mut K,
+    printer: &mut Printer<'_, K>,
 ) -> Result<(), WriteFault>
     requires one_each { length ports.now ≡ length drivers.now }
-    requires ready { report.old ≡ ready }
-    ensures { Writes result (text_of (port_inits ports.now drivers.now))
-        (record { told = K.bytes sink.old; faults = K.faults sink.old })
-        (record { told = K.bytes sink.new; faults = K.faults sink.new }) report.new }
+    requires goes_on { printer.old.stopped ≡ false }
+    ensures { Prints result (text_of (port_inits ports.now drivers.now)) printer.old printer.new }
 {
     for i in 0..ports.len() {
         let value = drivers[i].current();
-        put_line(
-            &Line::Init {
-                name: &ports[i].name,
-                value,
-            },
-            report,
-            sink,
-        )?;
+        printer.print(&Line::Init {
+            name: &ports[i].name,
+            value,
+        })?;
     }
     Ok(())
 }
 
-/// Runs the cycles up to the end time, and writes their events.
+/// Runs the cycles up to the end time, and prints their events.
 fn run_cycles<K: Sink>(
     ports: &[PortBit],
     drivers: &mut [Driver],
     until: Time,
-    report: &mut Reporter,
-    sink: &mut K,
+    printer: &mut Printer<'_, K>,
 ) -> Result<(), WriteFault>
     requires one_each { length ports.now ≡ length drivers.old }
     requires rise { AllRise 0 drivers.old }
-    requires ready { report.old ≡ ready }
-    ensures { Writes result (cycles_text ports.now drivers.old until)
-        (record { told = K.bytes sink.old; faults = K.faults sink.old })
-        (record { told = K.bytes sink.new; faults = K.faults sink.new }) report.new }
+    requires goes_on { printer.old.stopped ≡ false }
+    ensures { Prints result (cycles_text ports.now drivers.old until) printer.old printer.new }
 {
     let mut now = 0;
     let mut delta = 0;
     let mut next = next_time(drivers);
     while let Some(time) = up_to(until, next) {
         delta = next_delta(time, now, delta);
-        next = run_cycle(ports, drivers, time, delta, report, sink)?;
+        next = run_cycle(ports, drivers, time, delta, printer)?;
         now = time;
     }
     Ok(())
@@ -140,29 +125,26 @@ fn up_to(until: Time, time: Option<Time>) -> Option<Time>
     }
 }
 
-/// Runs one cycle: lets the transactions at its time become present values, and writes an event for each port whose value
+/// Runs one cycle: lets the transactions at its time become present values, and prints an event for each port whose value
 /// changes. The answer is the time of the next transaction of any driver, found on the same way over the ports.
 fn run_cycle<K: Sink>(
     ports: &[PortBit],
     drivers: &mut [Driver],
     time: Time,
     delta: u64,
-    report: &mut Reporter,
-    sink: &mut K,
+    printer: &mut Printer<'_, K>,
 ) -> Result<Option<Time>, WriteFault>
     requires one_each { length ports.now ≡ length drivers.old }
     requires rise { AllRise time drivers.old }
-    requires ready { report.old ≡ ready }
+    requires goes_on { printer.old.stopped ≡ false }
     ensures after { OnOk result (drivers.new ≡ map (advance time) drivers.old) }
     ensures next { IfOk result (λ next. next ≡ next_time (map (advance time) drivers.old)) }
-    ensures writes { Writes result
-        (cycle_text time delta ports.now drivers.old)
-        (record { told = K.bytes sink.old; faults = K.faults sink.old })
-        (record { told = K.bytes sink.new; faults = K.faults sink.new }) report.new }
+    ensures prints { Prints result
+        (cycle_text time delta ports.now drivers.old) printer.old printer.new }
 {
     let mut next = None;
     for i in 0..ports.len() {
-        let later = run_port(&ports[i], &mut drivers[i], time, delta, report, sink)?;
+        let later = run_port(&ports[i], &mut drivers[i], time, delta, printer)?;
         next = sooner(next, later);
     }
     Ok(next)
@@ -174,29 +156,22 @@ fn run_port<K: Sink>(
     driver: &mut Driver,
     time: Time,
     delta: u64,
-    report: &mut Reporter,
-    sink: &mut K,
+    printer: &mut Printer<'_, K>,
 ) -> Result<Option<Time>, WriteFault>
     requires rise { RisesFrom time driver.old.pending }
-    requires ready { report.old ≡ ready }
+    requires goes_on { printer.old.stopped ≡ false }
     ensures after { driver.new ≡ advance time driver.old }
     ensures next { IfOk result (λ next. next ≡ least (pending_times driver.new)) }
-    ensures writes { Writes result (port_text time delta port.now driver.old)
-        (record { told = K.bytes sink.old; faults = K.faults sink.old })
-        (record { told = K.bytes sink.new; faults = K.faults sink.new }) report.new }
+    ensures prints { Prints result (port_text time delta port.now driver.old) printer.old printer.new }
 {
     if let Some(value) = driver.advance(time) {
         let name = &port.name;
-        put_line(
-            &Line::Event {
-                time,
-                delta,
-                name,
-                value,
-            },
-            report,
-            sink,
-        )?;
+        printer.print(&Line::Event {
+            time,
+            delta,
+            name,
+            value,
+        })?;
     }
     Ok(driver.next_time())
 }

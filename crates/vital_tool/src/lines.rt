@@ -1,55 +1,31 @@
-//! Lines that are printed one after the other.
+//! Lines that refuse, and end a run.
 
-ghost use Rattle.std.specs.Prelude.{◌≡◌, ◌≢◌};
-ghost use Rattle.vital_report.specs.Lines.{bytes_of, said};
+ghost use Rattle.std.specs.Prelude.{◌≡◌, ◌≢◌, false};
+ghost use Rattle.vital_report.specs.Lines.{said};
 ghost use Rattle.vital_tool.specs.Answer.{refused};
 ghost use Rattle.vital_tool.specs.Loading.{too_long};
-ghost use Rattle.vital_tool.specs.Outcome.{Prints};
-ghost use Rattle.vital_tool.specs.Writes.{Writes, ready};
+ghost use Rattle.vital_tool.specs.Outcome.{Stage};
 
 use crate::status::Status;
 use vital_base::{Name, Sink, WriteFault};
-use vital_report::{Limit, Line, Position, Reporter};
+use vital_report::{Limit, Line, Position, Printer};
 
-/// Writes a line.
-pub fn put_line<K: Sink>(
-    line: &Line<'_>,
-    report: &mut Reporter,
-    sink: &mut K,
-) -> Result<(), WriteFault>
-    requires { report.old ≡ ready }
-    ensures { Writes result (bytes_of (said line.now))
-        (record { told = K.bytes sink.old; faults = K.faults sink.old })
-        (record { told = K.bytes sink.new; faults = K.faults sink.new }) report.new }
-{
-    report.put(sink, line)
-}
-
-/// Writes the one line of a refusal, and ends with its status.
-pub fn refuse<K: Sink>(
-    line: &Line<'_>,
-    status: Status,
-    report: &mut Reporter,
-    sink: &mut K,
-) -> Status
+/// Prints the one line of a refusal, and ends with its status.
+pub fn refuse<K: Sink>(line: &Line<'_>, status: Status, printer: &mut Printer<'_, K>) -> Status
     requires no_fault { (status ≢ Status.ReadFault) × (status ≢ Status.WriteFault) }
-    requires ready { report.old ≡ ready }
-    ensures { Prints (λ answer. answer ≡ refused (said line.now) status) result
-        (record { told = K.bytes sink.old; faults = K.faults sink.old })
-        (record { told = K.bytes sink.new; faults = K.faults sink.new }) }
+    requires goes_on { printer.old.stopped ≡ false }
+    ensures { Stage (λ answer. answer ≡ refused (said line.now) status) result printer.old printer.new }
 {
-    match put_line(line, report, sink) {
+    match printer.print(line) {
         Ok(()) => status,
         Err(WriteFault) => Status::WriteFault,
     }
 }
 
 /// Refuses a file that is too long.
-pub fn refuse_long<K: Sink>(file: &Name, report: &mut Reporter, sink: &mut K) -> Status
-    requires { report.old ≡ ready }
-    ensures { Prints (λ answer. answer ≡ too_long file.now) result
-        (record { told = K.bytes sink.old; faults = K.faults sink.old })
-        (record { told = K.bytes sink.new; faults = K.faults sink.new }) }
+pub fn refuse_long<K: Sink>(file: &Name, printer: &mut Printer<'_, K>) -> Status
+    requires { printer.old.stopped ≡ false }
+    ensures { Stage (λ answer. answer ≡ too_long file.now) result printer.old printer.new }
 {
     let at = Position {
         file,
@@ -60,5 +36,5 @@ pub fn refuse_long<K: Sink>(file: &Name, report: &mut Reporter, sink: &mut K) ->
         limit: Limit::File,
         at,
     };
-    refuse(&line, Status::Limit, report, sink)
+    refuse(&line, Status::Limit, printer)
 }

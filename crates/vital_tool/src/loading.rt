@@ -1,10 +1,10 @@
 //! Loading the files of a run.
 
-ghost use Rattle.std.specs.Prelude.{◌≡◌, ◌≢◌, ◌≤◌, length, All, IfOk, IfSome, Err};
+ghost use Rattle.std.specs.Prelude.{◌≡◌, ◌≢◌, ◌≤◌, ℕ, length, All, IfOk, OnOk, IfSome, Err};
 ghost use Rattle.vital_base.specs.Faults.{Rose};
 ghost use Rattle.vital_tool.specs.Answer.{not_there};
-ghost use Rattle.vital_tool.specs.Loading.{all_loaded};
-ghost use Rattle.vital_tool.specs.Returned.{GivesSources};
+ghost use Rattle.vital_tool.specs.Loading.{Opens, all_loaded};
+ghost use Rattle.vital_tool.specs.Given.{GivesSources};
 ghost use Rattle.vital_tool.specs.declared.loading.NotLoaded.TheVariants.{NoMemory};
 
 use std::alloc::{AllocFailed, Global};
@@ -48,6 +48,10 @@ pub fn load_files<'a, S: Shelf>(
     ensures loaded { IfSome (S.files shelf.old) (λ told. GivesSources result (all_loaded told files.now)) }
     ensures within { IfOk result (All (λ source. length source.text ≤ 16_777_216)) }
     ensures count { IfOk result (λ sources. length sources ≡ length files.now) }
+
+    // The first so many of the files are opened, in order and each once, and nothing else; all where all are loaded.
+    ensures opens { (count : ℕ) × Opens files.now count (S.history shelf.old) (S.history shelf.new) }
+    ensures ok_opens_all { OnOk result (Opens files.now (length files.now) (S.history shelf.old) (S.history shelf.new)) }
 
     ensures read_fault_rose { result ≡ Err NotLoaded.ReadFault → Rose (S.faults shelf.old) (S.faults shelf.new) }
     ensures read_fault_is_missing { result ≡ Err NotLoaded.ReadFault → S.is_steady shelf.old

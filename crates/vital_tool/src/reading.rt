@@ -4,7 +4,7 @@ ghost use Rattle.std.specs.Prelude.{◌≡◌, ◌≤◌, List as List', Result,
 ghost use Rattle.vital_grammar.specs.Grammar.{grammar};
 ghost use Rattle.vital_tool.specs.Reading.{AreRead};
 ghost use Rattle.vital_tool.specs.Refusals.{offset_of, place_in, printed_lexical, text_refusal};
-ghost use Rattle.vital_tool.specs.Returned.{GivesUnits, GivesFirst};
+ghost use Rattle.vital_tool.specs.Given.{GivesUnits, GivesFirst};
 ghost use Rattle.vital_tool.specs.declared.reading.Unread.TheVariants.{NoMemory};
 ghost use Rattle.vital_tool.specs.declared.refusal.Refusal.{Refusal as Refusal'};
 ghost use Rattle.vital_vhdl.specs.Outcomes.{IsReading};

@@ -1,11 +1,10 @@
 //! How words and files are refused.
 
-ghost use Rattle.std.specs.Prelude.{◌≡◌, []};
+ghost use Rattle.std.specs.Prelude.{◌≡◌, [], false};
 ghost use Rattle.vital_report.specs.Lines.{spot};
 ghost use Rattle.vital_tool.specs.Refusals.{place_of, printed_usage, refused_at, refused_words, spot_of};
-ghost use Rattle.vital_tool.specs.Returned.{GivesRefusal};
-ghost use Rattle.vital_tool.specs.Outcome.{Prints};
-ghost use Rattle.vital_tool.specs.Writes.{ready};
+ghost use Rattle.vital_tool.specs.Given.{GivesRefusal};
+ghost use Rattle.vital_tool.specs.Outcome.{Stage};
 
 use crate::lines::refuse;
 use crate::status::Status;
@@ -13,7 +12,7 @@ use std::alloc::Global;
 use vital_base::{Name, Place, Sink};
 use vital_library::LibraryError;
 use vital_report::{
-    LexicalWhy, LibraryWhy, Limit, Line, Position, Reporter, UsageWhy as PrintedUsage,
+    LexicalWhy, LibraryWhy, Limit, Line, Position, Printer, UsageWhy as PrintedUsage,
 };
 use vital_words::{NamedFile, UsageFault, UsageWhy};
 
@@ -43,37 +42,34 @@ impl Refusal {
     }
 }
 
-/// Writes the one line of a refusal of these files, and ends with its status.
+/// Prints the one line of a refusal of these files, and ends with its status.
 pub fn refuse_files<K: Sink>(
     alloc: Global,
     files: &[NamedFile],
     refusal: Refusal,
-    report: &mut Reporter,
-    sink: &mut K,
+    printer: &mut Printer<'_, K>,
 ) -> Status
-    requires { report.old ≡ ready }
-    ensures { Prints (λ answer. answer ≡ refused_at files.now refusal) result
-        (record { told = K.bytes sink.old; faults = K.faults sink.old })
-        (record { told = K.bytes sink.new; faults = K.faults sink.new }) }
+    requires { printer.old.stopped ≡ false }
+    ensures { Stage (λ answer. answer ≡ refused_at files.now refusal) result printer.old printer.new }
 {
     let nameless = Name::new(Vec::new(alloc));
     let at = position_of(files, refusal.place(), &nameless);
     match refusal {
         Refusal::Lexical { why, .. } => {
             let line = Line::RefusedLexical { at, why };
-            refuse(&line, Status::Syntax, report, sink)
+            refuse(&line, Status::Syntax, printer)
         }
         Refusal::Syntax { .. } => {
             let line = Line::RefusedSyntax { at };
-            refuse(&line, Status::Syntax, report, sink)
+            refuse(&line, Status::Syntax, printer)
         }
         Refusal::Limit { limit, .. } => {
             let line = Line::RefusedLimit { limit, at };
-            refuse(&line, Status::Limit, report, sink)
+            refuse(&line, Status::Limit, printer)
         }
         Refusal::Library { why, .. } => {
             let line = Line::RefusedLibrary { why, at };
-            refuse(&line, Status::Library, report, sink)
+            refuse(&line, Status::Library, printer)
         }
     }
 }
@@ -94,18 +90,16 @@ fn position_of<'a>(files: &'a [NamedFile], place: Place, nameless: &'a Name) -> 
     }
 }
 
-/// Writes the one line of words that are refused, and ends with its status.
-pub fn refuse_words<K: Sink>(fault: UsageFault, report: &mut Reporter, sink: &mut K) -> Status
-    requires { report.old ≡ ready }
-    ensures { Prints (λ answer. answer ≡ refused_words fault) result
-        (record { told = K.bytes sink.old; faults = K.faults sink.old })
-        (record { told = K.bytes sink.new; faults = K.faults sink.new }) }
+/// Prints the one line of words that are refused, and ends with its status.
+pub fn refuse_words<K: Sink>(fault: UsageFault, printer: &mut Printer<'_, K>) -> Status
+    requires { printer.old.stopped ≡ false }
+    ensures { Stage (λ answer. answer ≡ refused_words fault) result printer.old printer.new }
 {
     let line = Line::RefusedUsage {
         word: fault.word,
         why: printed_usage(fault.why),
     };
-    refuse(&line, Status::Usage, report, sink)
+    refuse(&line, Status::Usage, printer)
 }
 
 /// Why words are refused, as it is printed.

@@ -1,17 +1,19 @@
 //! The one call that does all that the program does.
 
-ghost use Rattle.std.specs.Prelude.{◌≡◌, ◌≢◌, ◌≤◌, IfSome};
+ghost use Rattle.std.specs.Prelude.{◌≡◌, ◌≢◌, ◌≤◌, false, IfSome};
 ghost use Rattle.vital_base.specs.Faults.{Rose};
 ghost use Rattle.vital_tool.specs.Answer.{Answer};
-ghost use Rattle.vital_tool.specs.Outcome.{Gives};
-ghost use Rattle.vital_tool.specs.Stages.{IsAnswer, IsOnlyAnswer};
+ghost use Rattle.vital_tool.specs.Loading.{OpensFiles, files_of};
+ghost use Rattle.vital_tool.specs.Outcome.{Finishes, Gives, Runs};
+ghost use Rattle.vital_tool.specs.Stages.{IsAnswer, IsJobAnswer, IsOnlyAnswer};
+ghost use Rattle.vital_words.specs.Jobs.{job};
 
 use crate::refusal::refuse_words;
 use crate::stages::run_job;
 use crate::status::Status;
 use std::alloc::Global;
-use vital_base::{Shelf, Sink, Word};
-use vital_report::Reporter;
+use vital_base::{Shelf, Sink, Word, WriteFault};
+use vital_report::{Printer, Reporter};
 use vital_vhdl::one_reading;
 use vital_words::{JobError, read_job};
 
@@ -28,13 +30,17 @@ pub fn run<S: Shelf, K: Sink>(
     // There is one answer. The status is its status and all its bytes were written, or a prefix of them where writing or
     // memory failed.
     ensures answered { IfSome (S.files shelf.old) (λ files. (answer : Answer) × IsOnlyAnswer words.now.items files answer
-        × Gives answer result (K.bytes sink.old) (K.bytes sink.new)) }
+        × Gives answer result (K.told sink.old) (K.told sink.new)) }
+
+    // Of the files that the words name the first ones are opened, in order and each once, and nothing else; and none is read
+    // after its end.
+    ensures opens_named_files { OpensFiles (files_of (job words.now.items)) result (S.history shelf.old) (S.history shelf.new) }
 
     // Reading failed only where the shelf did, and over a steady shelf only where the answer says so.
     ensures read_fault_rose { result ≡ Status.ReadFault → Rose (S.faults shelf.old) (S.faults shelf.new) }
     ensures read_fault_is_the_answer { result ≡ Status.ReadFault → S.is_steady shelf.old
         → IfSome (S.files shelf.old) (λ files. (answer : Answer) → IsAnswer words.now.items files answer → answer.status ≡ Status.ReadFault) }
-    ensures read_fault_writes_nothing { result ≡ Status.ReadFault → K.bytes sink.new ≡ K.bytes sink.old }
+    ensures read_fault_writes_nothing { result ≡ Status.ReadFault → K.told sink.new ≡ K.told sink.old }
 
     // Writing failed only where the sink did.
     ensures write_fault_rose { result ≡ Status.WriteFault → Rose (K.faults sink.old) (K.faults sink.new) }
@@ -46,12 +52,44 @@ pub fn run<S: Shelf, K: Sink>(
     ensures sink_never_falls { K.faults sink.old ≤ K.faults sink.new }
 {
     one_reading();
-    let Ok(mut report) = Reporter::new(alloc) else {
+    let Ok(reporter) = Reporter::new(alloc) else {
         return Status::NoMemory;
     };
+    let mut printer = Printer::new(reporter, sink);
+    let status = run_words(alloc, words, shelf, &mut printer);
+    let ended = finish(status, &mut printer);
+    let _ = printer.into_sink();
+    ended
+}
+
+/// Runs the job that the words ask for, or refuses them.
+fn run_words<S: Shelf, K: Sink>(
+    alloc: Global,
+    words: &[Word],
+    shelf: &mut S,
+    printer: &mut Printer<'_, K>,
+) -> Status
+    requires goes_on { printer.old.stopped ≡ false }
+    ensures runs { Runs (λ files. IsJobAnswer files (job words.now)) result
+        (S.files shelf.old) (S.is_steady shelf.old) (S.faults shelf.old) (S.faults shelf.new) printer.old printer.new }
+    ensures opens { OpensFiles (files_of (job words.now)) result (S.history shelf.old) (S.history shelf.new) }
+{
     match read_job(alloc, words) {
-        Ok(job) => run_job(alloc, &job, shelf, &mut report, sink),
-        Err(JobError::Usage(fault)) => refuse_words(fault, &mut report, sink),
+        Ok(job) => run_job(alloc, &job, shelf, printer),
+        Err(JobError::Usage(fault)) => refuse_words(fault, printer),
         Err(JobError::NoMemory) => Status::NoMemory,
+    }
+}
+
+/// Writes what is still held of an answer that ended with this status. After a failure there is nothing to write.
+fn finish<K: Sink>(status: Status, printer: &mut Printer<'_, K>) -> Status
+    ensures { Finishes status result printer.old printer.new }
+{
+    match status {
+        Status::ReadFault | Status::WriteFault | Status::NoMemory => status,
+        _ => match printer.flush() {
+            Ok(()) => status,
+            Err(WriteFault) => Status::WriteFault,
+        },
     }
 }

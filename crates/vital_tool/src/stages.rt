@@ -1,14 +1,13 @@
 //! The stages of a job, in their order.
 
-ghost use Rattle.std.specs.Prelude.{◌≡◌, ◌≤◌, length, All, Ok};
+ghost use Rattle.std.specs.Prelude.{◌≡◌, ◌≤◌, false, length, All, Ok};
 ghost use Rattle.vital_library.specs.Gathered.{gathered};
-ghost use Rattle.vital_tool.specs.Loading.{all_loaded};
-ghost use Rattle.vital_tool.specs.Outcome.{Prints, Runs};
+ghost use Rattle.vital_tool.specs.Loading.{OpensFiles, all_loaded};
+ghost use Rattle.vital_tool.specs.Outcome.{Runs, Stage};
 ghost use Rattle.vital_tool.specs.Stages.{IsLibraryAnswer, IsLoadedAnswer, IsTaskAnswer};
-ghost use Rattle.vital_tool.specs.Writes.{ready};
 ghost use Rattle.vital_words.specs.Given.{NamesIn};
 
-use crate::cells::put_cells;
+use crate::cells::print_cells;
 use crate::lines::refuse_long;
 use crate::loading::{NotLoaded, Source, load_files};
 use crate::reading::{Unread, read_files};
@@ -18,7 +17,7 @@ use crate::stimuli::play_text;
 use std::alloc::Global;
 use vital_base::{List, Shelf, Sink, WriteFault};
 use vital_library::{Library, gather};
-use vital_report::Reporter;
+use vital_report::Printer;
 use vital_vhdl::{Units, vhdl_rules};
 use vital_words::{Job, Task};
 
@@ -27,21 +26,19 @@ pub fn run_job<S: Shelf, K: Sink>(
     alloc: Global,
     job: &Job,
     shelf: &mut S,
-    report: &mut Reporter,
-    sink: &mut K,
+    printer: &mut Printer<'_, K>,
 ) -> Status
     requires few { length job.now.files ≤ 16 }
     requires names_in { NamesIn job.now }
-    requires ready { report.old ≡ ready }
-    ensures { Runs (λ files. IsLoadedAnswer job.now (all_loaded files job.now.files)) result
-        (S.files shelf.old) (S.is_steady shelf.old) (S.faults shelf.old) (S.faults shelf.new)
-        (record { told = K.bytes sink.old; faults = K.faults sink.old })
-        (record { told = K.bytes sink.new; faults = K.faults sink.new }) }
+    requires goes_on { printer.old.stopped ≡ false }
+    ensures runs { Runs (λ files. IsLoadedAnswer job.now (all_loaded files job.now.files)) result
+        (S.files shelf.old) (S.is_steady shelf.old) (S.faults shelf.old) (S.faults shelf.new) printer.old printer.new }
+    ensures opens { OpensFiles job.now.files result (S.history shelf.old) (S.history shelf.new) }
 {
     match load_files(alloc, job.files.as_slice(), shelf) {
-        Ok(sources) => run_sources(alloc, job, &sources, report, sink),
+        Ok(sources) => run_sources(alloc, job, &sources, printer),
         Err(NotLoaded::ReadFault) => Status::ReadFault,
-        Err(NotLoaded::TooLong(file)) => refuse_long(file, report, sink),
+        Err(NotLoaded::TooLong(file)) => refuse_long(file, printer),
         Err(NotLoaded::NoMemory) => Status::NoMemory,
     }
 }
@@ -51,25 +48,22 @@ fn run_sources<K: Sink>(
     alloc: Global,
     job: &Job,
     sources: &List<Source>,
-    report: &mut Reporter,
-    sink: &mut K,
+    printer: &mut Printer<'_, K>,
 ) -> Status
     requires few { length sources.now ≤ 16 }
     requires within { All (λ source. length source.text ≤ 16_777_216) sources.now }
     requires count { length sources.now ≡ length job.now.files }
     requires names_in { NamesIn job.now }
-    requires ready { report.old ≡ ready }
-    ensures { Prints (IsLoadedAnswer job.now (Ok sources.now)) result
-        (record { told = K.bytes sink.old; faults = K.faults sink.old })
-        (record { told = K.bytes sink.new; faults = K.faults sink.new }) }
+    requires goes_on { printer.old.stopped ≡ false }
+    ensures { Stage (IsLoadedAnswer job.now (Ok sources.now)) result printer.old printer.new }
 {
     let Ok(rules) = vhdl_rules(alloc) else {
         return Status::NoMemory;
     };
     match read_files(alloc, &rules, sources.as_slice()) {
-        Ok(units) => run_units(alloc, job, sources, units, report, sink),
+        Ok(units) => run_units(alloc, job, sources, units, printer),
         Err(Unread::Refused(refusal)) => {
-            refuse_files(alloc, job.files.as_slice(), refusal, report, sink)
+            refuse_files(alloc, job.files.as_slice(), refusal, printer)
         }
         Err(Unread::NoMemory) => Status::NoMemory,
     }
@@ -81,21 +75,18 @@ fn run_units<K: Sink>(
     job: &Job,
     sources: &List<Source>,
     units: List<Units>,
-    report: &mut Reporter,
-    sink: &mut K,
+    printer: &mut Printer<'_, K>,
 ) -> Status
     requires within { All (λ source. length source.text ≤ 16_777_216) sources.now }
     requires count { length sources.now ≡ length job.now.files }
     requires names_in { NamesIn job.now }
-    requires ready { report.old ≡ ready }
-    ensures { Prints (IsLibraryAnswer job.now sources.now (gathered units)) result
-        (record { told = K.bytes sink.old; faults = K.faults sink.old })
-        (record { told = K.bytes sink.new; faults = K.faults sink.new }) }
+    requires goes_on { printer.old.stopped ≡ false }
+    ensures { Stage (IsLibraryAnswer job.now sources.now (gathered units)) result printer.old printer.new }
 {
     match gather(alloc, units) {
-        Ok(library) => run_task(alloc, job, sources, &library, report, sink),
+        Ok(library) => run_task(alloc, job, sources, &library, printer),
         Err(error) => match library_refusal(error) {
-            Some(refusal) => refuse_files(alloc, job.files.as_slice(), refusal, report, sink),
+            Some(refusal) => refuse_files(alloc, job.files.as_slice(), refusal, printer),
             None => Status::NoMemory,
         },
     }
@@ -107,16 +98,13 @@ fn run_task<K: Sink>(
     job: &Job,
     sources: &List<Source>,
     library: &Library,
-    report: &mut Reporter,
-    sink: &mut K,
+    printer: &mut Printer<'_, K>,
 ) -> Status
     requires within { All (λ source. length source.text ≤ 16_777_216) sources.now }
     requires count { length sources.now ≡ length job.now.files }
     requires names_in { NamesIn job.now }
-    requires ready { report.old ≡ ready }
-    ensures { Prints (IsTaskAnswer job.now.task job.now.files sources.now library.now) result
-        (record { told = K.bytes sink.old; faults = K.faults sink.old })
-        (record { told = K.bytes sink.new; faults = K.faults sink.new }) }
+    requires goes_on { printer.old.stopped ≡ false }
+    ensures { Stage (IsTaskAnswer job.now.task job.now.files sources.now library.now) result printer.old printer.new }
 {
     match job.task {
         Task::Play(play) => {
@@ -127,11 +115,10 @@ fn run_task<K: Sink>(
                 &file.name,
                 play.until,
                 source.text.as_slice(),
-                report,
-                sink,
+                printer,
             )
         }
-        Task::Check => match put_cells(library, report, sink) {
+        Task::Check => match print_cells(library, printer) {
             Ok(()) => Status::Done,
             Err(WriteFault) => Status::WriteFault,
         },

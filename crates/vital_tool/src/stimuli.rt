@@ -1,16 +1,15 @@
 //! Playing the stimuli of a file.
 
-ghost use Rattle.std.specs.Prelude.{◌≡◌, ◌<◌, ◌≤◌, length, All};
-ghost use Rattle.vital_tool.specs.Outcome.{Prints};
+ghost use Rattle.std.specs.Prelude.{◌≡◌, ◌<◌, ◌≤◌, false, length, All};
+ghost use Rattle.vital_tool.specs.Outcome.{Stage};
 ghost use Rattle.vital_tool.specs.Stimuli.{printed_why, IsStimuliAnswer, IsTextAnswer};
-ghost use Rattle.vital_tool.specs.Writes.{ready};
 
 use crate::cycles::{play, start};
 use crate::lines::refuse;
 use crate::status::Status;
 use std::alloc::Global;
 use vital_base::{Name, Sink, Time, WriteFault};
-use vital_report::{Line, Reporter, StimulusWhy};
+use vital_report::{Line, Printer, StimulusWhy};
 use vital_stim::{StimError, StimWhy, Stimuli, read_stim};
 
 /// Plays the text of a stimulus file of this name.
@@ -19,24 +18,21 @@ pub fn play_text<K: Sink>(
     name: &Name,
     until: Time,
     text: &[u8],
-    report: &mut Reporter,
-    sink: &mut K,
+    printer: &mut Printer<'_, K>,
 ) -> Status
     requires short { length text.now ≤ 16_777_216 }
-    requires ready { report.old ≡ ready }
-    ensures { Prints (IsTextAnswer name.now until text.now) result
-        (record { told = K.bytes sink.old; faults = K.faults sink.old })
-        (record { told = K.bytes sink.new; faults = K.faults sink.new }) }
+    requires goes_on { printer.old.stopped ≡ false }
+    ensures { Stage (IsTextAnswer name.now until text.now) result printer.old printer.new }
 {
     match read_stim(alloc, text, None) {
-        Ok(stimuli) => play_stimuli(alloc, &stimuli, until, report, sink),
+        Ok(stimuli) => play_stimuli(alloc, &stimuli, until, printer),
         Err(StimError::Fault(fault)) => {
             let line = Line::RefusedStimulus {
                 why: printed_why(fault.why),
                 file: name,
                 line: fault.line,
             };
-            refuse(&line, Status::Stimulus, report, sink)
+            refuse(&line, Status::Stimulus, printer)
         }
         Err(StimError::NoMemory) => Status::NoMemory,
     }
@@ -47,19 +43,16 @@ fn play_stimuli<K: Sink>(
     alloc: Global,
     stimuli: &Stimuli,
     until: Time,
-    report: &mut Reporter,
-    sink: &mut K,
+    printer: &mut Printer<'_, K>,
 ) -> Status
     requires ports { All (λ line. line.port < length stimuli.now.ports) stimuli.now.lines }
-    requires ready { report.old ≡ ready }
-    ensures { Prints (IsStimuliAnswer until stimuli.now) result
-        (record { told = K.bytes sink.old; faults = K.faults sink.old })
-        (record { told = K.bytes sink.new; faults = K.faults sink.new }) }
+    requires goes_on { printer.old.stopped ≡ false }
+    ensures { Stage (IsStimuliAnswer until stimuli.now) result printer.old printer.new }
 {
     let Ok(mut drivers) = start(alloc, stimuli) else {
         return Status::NoMemory;
     };
-    match play(stimuli.ports.as_slice(), &mut drivers, until, report, sink) {
+    match play(stimuli.ports.as_slice(), &mut drivers, until, printer) {
         Ok(()) => Status::Done,
         Err(WriteFault) => Status::WriteFault,
     }
@@ -70,10 +63,10 @@ fn printed_why(why: StimWhy) -> StimulusWhy
     ensures { result ≡ printed_why why }
 {
     match why {
-        StimWhy::Line => StimulusWhy::BadLine,
-        StimWhy::Unit => StimulusWhy::BadUnit,
-        StimWhy::TimeLarge => StimulusWhy::TooLarge,
-        StimWhy::Value => StimulusWhy::BadValue,
-        StimWhy::TimeFalls => StimulusWhy::Falls,
+        StimWhy::Line => StimulusWhy::Line,
+        StimWhy::Unit => StimulusWhy::Unit,
+        StimWhy::Large => StimulusWhy::Large,
+        StimWhy::Value => StimulusWhy::Value,
+        StimWhy::Falls => StimulusWhy::Falls,
     }
 }

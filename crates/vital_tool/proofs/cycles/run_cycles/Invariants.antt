@@ -1,16 +1,13 @@
 use Rattle.std.proofs.Common.{◌≡◌}
 use Rattle.vital_tool.specs.Driver.{pending_count, next_time}
 use Rattle.vital_tool.specs.Ports.{cycles_text}
-use Rattle.vital_tool.specs.Writes.{SinkState}
 use Rattle.vital_tool.proofs.CyclesLeft.{CyclesLeft}
 use Rattle.vital_tool.proofs.cycles.run_cycles.Given as goal
 
 abbrev pub invariant-loop-time : goal.invariant-loop-time
 invariant-loop-time g l =
-    let start : SinkState = record { told = g.K.Sink.bytes l.fn.sink; faults = g.K.Sink.faults l.fn.sink } in
-    let sink : SinkState = record { told = g.K.Sink.bytes l.sink; faults = g.K.Sink.faults l.sink } in
     record {
-      left : CyclesLeft l.ports l.until start (cycles_text l.ports l.fn.drivers l.until) l.now l.delta l.drivers sink l.report;
+      left : CyclesLeft l.ports l.until l.fn.printer (cycles_text l.ports l.fn.drivers l.until) l.now l.delta l.drivers l.printer;
       next : l.next ≡ next_time l.drivers;
     }
 

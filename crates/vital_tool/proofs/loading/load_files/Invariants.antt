@@ -1,5 +1,6 @@
 use Rattle.std.proofs.Common.{◌≡◌, ◌≤◌, length, All}
 use Rattle.std.specs.Prelude.{IfSome}
+use Rattle.vital_tool.specs.Loading.{Opens}
 use Rattle.vital_tool.proofs.Loaded.{IsLoaded}
 use Rattle.vital_tool.proofs.loading.load_files.Given as goal
 
@@ -11,4 +12,5 @@ invariant-loop-file g l = record {
   count_stays : g.S.Shelf.faults l.shelf ≡ g.S.Shelf.faults l.fn.shelf;
   within : All (λ source. length source.text ≤ 16_777_216) l.sources.items;
   count : length l.sources.items ≡ l.file-index;
+  opens : Opens l.files l.file-index (g.S.Shelf.history l.fn.shelf) (g.S.Shelf.history l.shelf);
 }

@@ -2,15 +2,12 @@ use Rattle.std.proofs.Common.{◌≡◌}
 use Rattle.vital_library.specs.Gathered.{gathered}
 use Rattle.vital_tool.specs.Refusals.{refused_at}
 use Rattle.vital_tool.specs.Stages.{IsLibraryAnswer}
-use Rattle.vital_tool.specs.Writes.{SinkState}
 use Rattle.vital_tool.proofs.CellsLeft.{library_refused}
-use Rattle.vital_tool.proofs.Printing.{prints_for}
+use Rattle.vital_tool.proofs.Printing.{stage_for}
 use Rattle.vital_tool.proofs.stages.run_units.Goals as goal
 
 pub returns-in-Some : goal.returns-in-Some
 returns-in-Some g c =
     let job = c.args.job.now in
-    let old : SinkState = record { told = g.K.Sink.bytes c.args.sink.now; faults = g.K.Sink.faults c.args.sink.now } in
-    let new : SinkState = record { told = g.K.Sink.bytes c.refuse_files.new.sink; faults = g.K.Sink.faults c.refuse_files.new.sink } in
-    prints_for (λ answer. answer ≡ refused_at c.as_slice.result.now c.in-Some.refusal) (IsLibraryAnswer job c.args.sources.now (gathered c.args.units)) c.refuse_files.result old new c.refuse_files.ensures
+    stage_for (λ answer. answer ≡ refused_at c.as_slice.result.now c.in-Some.refusal) (IsLibraryAnswer job c.args.sources.now (gathered c.args.units)) c.refuse_files.result c.args.printer.now c.refuse_files.new.printer c.refuse_files.ensures
     (rw c.as_slice.ensures (library_refused job c.args.sources.now c.in-Err.error (gathered c.args.units) c.in-Some.refusal c.in-Err.ensures.outcome c.in-Some.ensures))

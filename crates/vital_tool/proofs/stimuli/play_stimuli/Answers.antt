@@ -1,9 +1,8 @@
 use Rattle.std.proofs.Common.{◌≡◌, length, sym, ap, ◌∙◌}
 use Rattle.vital_tool.specs.Stimuli.{IsStimuliAnswer}
 use Rattle.vital_tool.specs.declared.status.Status.TheVariants.{WriteFault}
-use Rattle.vital_tool.specs.Writes.{SinkState}
 use Rattle.vital_tool.proofs.OneRun.{said_of, stimuli_answer}
-use Rattle.vital_tool.proofs.Printing.{prints_all, prints_prefix, prints_for}
+use Rattle.vital_tool.proofs.Printing.{stage_prints, stage_stops, stage_for}
 use Rattle.vital_tool.proofs.Sending.{length-started, all_rise_sent}
 use Rattle.vital_tool.proofs.stimuli.play_stimuli.Goals as goal
 
@@ -20,18 +19,14 @@ returns-in-Ok-play g c =
     let stimuli = c.args.stimuli.now in
     let until = c.args.until in
     let said = said_of until stimuli in
-    let old : SinkState = record { told = g.K.Sink.bytes c.args.sink.now; faults = g.K.Sink.faults c.args.sink.now } in
-    let new : SinkState = record { told = g.K.Sink.bytes c.play.new.sink; faults = g.K.Sink.faults c.play.new.sink } in
     let written = rw (c.as_slice.ensures, c.deref_mut.ensures.value, c.in-Ok.ensures) at c.in-Ok-play.ensures in
-    prints_for (λ answer. answer ≡ said) (IsStimuliAnswer until stimuli) said.status old new
-    (prints_all said old new c.play.new.report (λ e. absurd cc) (λ e. absurd cc) written) (stimuli_answer until stimuli)
+    stage_for (λ answer. answer ≡ said) (IsStimuliAnswer until stimuli) said.status c.args.printer.now c.play.new.printer
+    (stage_prints said c.args.printer.now c.play.new.printer (λ e. absurd cc) (λ e. absurd cc) written) (stimuli_answer until stimuli)
 
 pub returns : goal.returns
 returns g c =
     let stimuli = c.args.stimuli.now in
     let until = c.args.until in
     let said = said_of until stimuli in
-    let old : SinkState = record { told = g.K.Sink.bytes c.args.sink.now; faults = g.K.Sink.faults c.args.sink.now } in
-    let new : SinkState = record { told = g.K.Sink.bytes c.play.new.sink; faults = g.K.Sink.faults c.play.new.sink } in
     let written = rw (c.as_slice.ensures, c.deref_mut.ensures.value, c.in-Ok.ensures) at c.in-Err.ensures in
-    prints_for (λ answer. answer ≡ said) (IsStimuliAnswer until stimuli) WriteFault old new (prints_prefix said old new written) (stimuli_answer until stimuli)
+    stage_for (λ answer. answer ≡ said) (IsStimuliAnswer until stimuli) WriteFault c.args.printer.now c.play.new.printer (stage_stops said c.args.printer.now c.play.new.printer c.requires.goes_on written) (stimuli_answer until stimuli)

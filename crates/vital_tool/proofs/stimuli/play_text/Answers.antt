@@ -1,9 +1,8 @@
 use Rattle.std.proofs.Common.{Result, sym, subst}
 use Rattle.vital_stim.specs.declared.fault.StimFault.{StimFault}
 use Rattle.vital_stim.specs.declared.stimuli.Stimuli.{Stimuli}
-use Rattle.vital_tool.specs.Outcome.{Prints}
+use Rattle.vital_tool.specs.Outcome.{Stage}
 use Rattle.vital_tool.specs.Stimuli.{IsReadStimuliAnswer}
-use Rattle.vital_tool.specs.Writes.{SinkState}
 use Rattle.vital_tool.proofs.stimuli.play_text.Goals as goal
 
 pub play_stimuli-requires-clause-ports : goal.play_stimuli-requires-clause-ports
@@ -11,14 +10,10 @@ play_stimuli-requires-clause-ports g c = λ k d lt. (c.in-Ok.ensures.fit k d lt)
 
 pub returns-in-Ok : goal.returns-in-Ok
 returns-in-Ok g c =
-    let old : SinkState = record { told = g.K.Sink.bytes c.args.sink.now; faults = g.K.Sink.faults c.args.sink.now } in
-    let new : SinkState = record { told = g.K.Sink.bytes c.play_stimuli.new.sink; faults = g.K.Sink.faults c.play_stimuli.new.sink } in
-    subst (λ (read : Result Stimuli StimFault). Prints (IsReadStimuliAnswer c.args.name.now c.args.until read) c.play_stimuli.result old new) (sym c.in-Ok.ensures.answer) c.play_stimuli.ensures
+    subst (λ (read : Result Stimuli StimFault). Stage (IsReadStimuliAnswer c.args.name.now c.args.until read) c.play_stimuli.result c.args.printer.now c.play_stimuli.new.printer) (sym c.in-Ok.ensures.answer) c.play_stimuli.ensures
 
 pub returns-in-Err-Fault : goal.returns-in-Err-Fault
 returns-in-Err-Fault g c =
     let told = rw c.in-Err-Fault.field-0-is at c.in-Err-Fault.ensures.answer in
     let why = rw c.in-Err-Fault.field-0-is at c.printed_why.ensures in
-    let old : SinkState = record { told = g.K.Sink.bytes c.args.sink.now; faults = g.K.Sink.faults c.args.sink.now } in
-    let new : SinkState = record { told = g.K.Sink.bytes c.refuse.new.sink; faults = g.K.Sink.faults c.refuse.new.sink } in
-    subst (λ (read : Result Stimuli StimFault). Prints (IsReadStimuliAnswer c.args.name.now c.args.until read) c.refuse.result old new) (sym told) (rw (c.in-Err-Fault.field-0-is, why) at c.refuse.ensures)
+    subst (λ (read : Result Stimuli StimFault). Stage (IsReadStimuliAnswer c.args.name.now c.args.until read) c.refuse.result c.args.printer.now c.refuse.new.printer) (sym told) (rw (c.in-Err-Fault.field-0-is, why) at c.refuse.ensures)
