@@ -7,6 +7,7 @@ use Rattle.std.proofs.lemmas.Bool.{or_left, or_right}
 use Rattle.std.proofs.lemmas.List.{map-append}
 use Rattle.vital_stim.specs.Builder.{Holds}
 use Rattle.vital_stim.specs.Names.{texts, with_name}
+use Rattle.vital_stim.specs.Spellings.{Remembers}
 use Rattle.vital_stim.specs.declared.builder.StimuliBuilder.{StimuliBuilder}
 use Rattle.vital_stim.specs.Stimuli.{Stimulus, first_sights, names_in, line_among}
 use Rattle.vital_stim.proofs.NameLemmas.{AreAmong, are_among, bytes_eq-same, first_sights-push}
@@ -40,11 +41,12 @@ lines_in-push stimuli s =
     ap (λ names. map (line_among names) (stimuli ++ s ∷ [])) (names-push stimuli s)
     ∙ lines-push stimuli s (names_in stimuli) (list_any (bytes_eq s.name) (names_in stimuli)) (are_among (map name_of stimuli))
 
-pub holds-push : (old new : StimuliBuilder) (stimuli : List Stimulus) (s : Stimulus) (place : ℕ) → Holds old stimuli → texts new.names ≡ with_name (texts old.names) s.name → place ≡ position_or_len (bytes_eq s.name) (texts old.names) → new.lines.items ≡ old.lines.items ++ record { time = s.time; port = place; value = s.value } ∷ [] → Holds new (stimuli ++ s ∷ [])
-holds-push old new stimuli s place held names at lines =
+pub holds-push : (old new : StimuliBuilder) (stimuli : List Stimulus) (s : Stimulus) (place : ℕ) → Holds old stimuli → texts new.names ≡ with_name (texts old.names) s.name → place ≡ position_or_len (bytes_eq s.name) (texts old.names) → new.lines.items ≡ old.lines.items ++ record { time = s.time; port = place; value = s.value } ∷ [] → Remembers (texts new.names) new.spellings → Holds new (stimuli ++ s ∷ [])
+holds-push old new stimuli s place held names at lines spellings =
     let known : with_name (texts old.names) s.name ≡ with_name (names_in stimuli) s.name = ap (λ ns. with_name ns s.name) held.names in
     let here : place ≡ position_or_len (bytes_eq s.name) (names_in stimuli) = at ∙ ap (position_or_len (bytes_eq s.name)) held.names in
     record {
       names = names ∙ known ∙ sym (names-push stimuli s);
       lines = lines ∙ rw (held.lines, here) (sym (lines_in-push stimuli s));
+      spellings = spellings;
     }

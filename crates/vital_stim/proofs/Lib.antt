@@ -6,6 +6,7 @@ pub mod RunLemmas
 pub mod Positions
 pub mod PortLemmas
 pub mod NameLemmas
+pub mod SpellingLemmas
 pub mod BuilderLemmas
 pub mod Progress
 pub mod Sound

@@ -1,15 +1,17 @@
 //! Stimuli in the making.
 
-ghost use Rattle.std.specs.Prelude.{◌≡◌, ◌+◌, ◌<◌, ◌≤◌, ◌^◌, List, [], ◌∷◌, ◌++◌, OnOk, IfOk, map};
+ghost use Rattle.std.specs.Prelude.{◌≡◌, ◌+◌, ◌<◌, ◌≤◌, ◌^◌, true, List, [], ◌∷◌, ◌++◌, OnOk, IfOk, map};
 ghost use Rattle.std.specs.List.{position_or_len};
 ghost use Rattle.std.specs.Str.{bytes_eq};
-ghost use Rattle.vital_stim.specs.PortForm.{folded};
+ghost use Rattle.vital_stim.specs.PortForm.{is_port, folded};
 ghost use Rattle.vital_stim.specs.Stimuli.{Stimulus, input_port, with_ports};
 ghost use Rattle.vital_stim.specs.Entry.{stimulus};
 ghost use Rattle.vital_stim.specs.Names.{texts, names_count, with_name};
 ghost use Rattle.vital_stim.specs.Builder.{Holds, port_count};
 
 use crate::entry::Entry;
+use crate::port_form::is_port;
+use crate::spellings::Spellings;
 use crate::stimuli::{StimLine, Stimuli};
 use indexmap::IndexSet;
 use std::alloc::{AllocError, Global};
@@ -18,15 +20,17 @@ use vital_logic::{Level, to_byte};
 
 /// Stimuli that entries are put to, one after another.
 #[derive(Drop)]
-pub struct StimuliBuilder {
+pub struct StimuliBuilder<'a> {
     /// The names of the ports in order of first sight.
     names: IndexSet<Vec<u8>>,
     lines: Vec<StimLine>,
     /// Room for the name of the entry that is put, which is used again and again.
     folded: Vec<u8>,
+    /// How ports were spelled, so that most entries need no search among the names.
+    spellings: Spellings<'a>,
 }
 
-impl StimuliBuilder {
+impl<'a> StimuliBuilder<'a> {
     /// No stimuli yet. It takes no memory.
     pub fn new(alloc: Global) -> Self
         ensures held { Holds result [] }
@@ -36,39 +40,56 @@ impl StimuliBuilder {
             names: IndexSet::new(alloc),
             lines: Vec::new(alloc),
             folded: Vec::new(alloc),
+            spellings: Spellings::new(),
         }
     }
 
-    /// Puts what an entry says at the end.
-    pub fn push(&mut self, alloc: Global, entry: &Entry<'_>) -> Result<(), AllocError>
+    /// Puts what an entry says at the end, if its port has the form of one. Tells whether it has.
+    pub fn push(&mut self, alloc: Global, entry: &Entry<'a>) -> Result<bool, AllocError>
         requires { port_count self.old < 2 ^ 32 }
-        ensures held { OnOk result ((stimuli : List Stimulus) → Holds self.old stimuli → Holds self.new (stimuli ++ stimulus entry.now ∷ [])) }
+        ensures form { IfOk result (λ formed. (stimuli : List Stimulus) → Holds self.old stimuli → formed ≡ is_port entry.now.port.now) }
+        ensures held { IfOk result (λ formed. formed ≡ true → (stimuli : List Stimulus) → Holds self.old stimuli → Holds self.new (stimuli ++ stimulus entry.now ∷ [])) }
         ensures count { OnOk result (port_count self.new ≤ port_count self.old + 1) }
     {
+        if let Some(port) = self.spellings.port(entry.port) {
+            self.lines.push(line_of(entry, port))?;
+            return Ok(true);
+        }
+        if !is_port(entry.port) {
+            return Ok(false);
+        }
         fold_into(&mut self.folded, entry.port)?;
-        let place = place_of(alloc, &mut self.names, &self.folded)?;
-        let line = StimLine {
-            time: entry.time,
-            port: place as u32,
-            value: entry.value,
-        };
-        self.lines.push(line)?;
-        Ok(())
+        let port = place_of(alloc, &mut self.names, &self.folded)? as u32;
+        self.spellings.put(entry.port, port);
+        self.lines.push(line_of(entry, port))?;
+        Ok(true)
     }
 
     /// The stimuli that were put.
     pub fn build(self, alloc: Global) -> Result<Stimuli, AllocError>
-        ensures { IfOk result (λ built. (stimuli : List Stimulus) → Holds self stimuli → built ≡ with_ports stimuli) }
+        ensures { IfOk result (λ built. (stimuli : List Stimulus) → Holds self.entry stimuli → built ≡ with_ports stimuli) }
     {
         let StimuliBuilder {
             names,
             lines,
             folded: _,
+            spellings: _,
         } = self;
         Ok(Stimuli {
             ports: ports_of(alloc, names)?,
             lines: List::new(lines),
         })
+    }
+}
+
+/// What an entry says of the port with this number.
+fn line_of(entry: &Entry<'_>, port: u32) -> StimLine
+    ensures { result ≡ record { time = entry.now.time; port = port; value = entry.now.value } }
+{
+    StimLine {
+        time: entry.time,
+        port,
+        value: entry.value,
     }
 }
 

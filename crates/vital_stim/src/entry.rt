@@ -1,10 +1,12 @@
 //! What one line says.
 
-ghost use Rattle.std.specs.Prelude.{◌≡◌, [], ◌∷◌, ℕ, List, Some};
+ghost use Rattle.std.specs.Prelude.{◌≡◌, [], ◌∷◌, ℕ, List, Some, if◌then◌else◌};
 ghost use Rattle.vital_base.specs.Times.{number_of};
 ghost use Rattle.vital_stim.specs.Stimuli.{value_named, stimulus_of, stimulus_after};
 ghost use Rattle.vital_stim.specs.Entry.{stimulus_result};
 ghost use Rattle.vital_stim.specs.Parts.{fields_of};
+ghost use Rattle.vital_stim.specs.PortForm.{is_port};
+ghost use Rattle.vital_stim.specs.declared.fault.StimWhy.TheVariants.{Line};
 
 use crate::digits::number_at;
 use crate::fault::StimWhy;
@@ -17,18 +19,19 @@ use vital_logic::{Level, from_byte};
 #[derive(Clone, Copy)]
 pub struct Entry<'a> {
     pub time: Time,
-    /// The port as the line spells it, which capitals may be part of.
+    /// The port as the line spells it, which capitals may be part of. Whether it has the form of a port is not tested yet.
     pub port: &'a [u8],
     pub value: Level,
 }
 
-/// What a line says that stands after others, the latest time of which is given, or the first test that it fails.
+/// What a line says that stands after others, the latest time of which is given, or the first test that it fails. The
+/// form of the port is left to be tested where no other test fails.
 pub fn entry_after<'a>(latest: Time, line: &'a [u8]) -> Result<Entry<'a>, StimWhy>
     ensures { stimulus_result result ≡ stimulus_after latest (fields_of line.now) }
 {
     let entry = entry_of(line)?;
     if entry.time < latest {
-        return Err(StimWhy::Falls);
+        return Err(first_fault(entry.port, StimWhy::Falls));
     }
     Ok(entry)
 }
@@ -65,13 +68,26 @@ fn from_fields<'a>(
     ensures { (digits : List ℕ) → number_of digits ≡ Some number
         → stimulus_result result ≡ stimulus_of (digits ∷ letters.now ∷ port.now ∷ level.now ∷ []) }
 {
-    if !is_port(port) {
-        return Err(StimWhy::Line);
-    }
-    let unit = TimeUnit::named(letters).ok_or(StimWhy::Unit)?;
-    let time = unit.time(number).ok_or(StimWhy::Large)?;
-    let value = value_named(level).ok_or(StimWhy::Value)?;
+    let unit = match TimeUnit::named(letters) {
+        Some(unit) => unit,
+        None => return Err(first_fault(port, StimWhy::Unit)),
+    };
+    let time = match unit.time(number) {
+        Some(time) => time,
+        None => return Err(first_fault(port, StimWhy::Large)),
+    };
+    let value = match value_named(level) {
+        Some(value) => value,
+        None => return Err(first_fault(port, StimWhy::Value)),
+    };
     Ok(Entry { time, port, value })
+}
+
+/// The first test that a line fails, where it fails this one: the form of its port is an earlier test.
+fn first_fault(port: &[u8], why: StimWhy) -> StimWhy
+    ensures { result ≡ if is_port port.now then why else Line }
+{
+    if is_port(port) { why } else { StimWhy::Line }
 }
 
 /// The level that one byte writes.

@@ -8,6 +8,7 @@ mod fault;
 mod fields;
 mod port_form;
 mod reading;
+mod spellings;
 mod stimuli;
 
 pub use fault::{StimError, StimFault, StimWhy};

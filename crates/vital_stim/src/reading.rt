@@ -6,7 +6,7 @@ ghost use Rattle.vital_stim.specs.Stimuli.{Answers, stim, Fits};
 
 use crate::builder::StimuliBuilder;
 use crate::entry::entry_after;
-use crate::fault::{StimError, StimFault};
+use crate::fault::{StimError, StimFault, StimWhy};
 use crate::fields::is_passed_over;
 use crate::stimuli::Stimuli;
 use std::alloc::Global;
@@ -50,7 +50,12 @@ fn read(alloc: Global, text: &[u8]) -> Result<Stimuli, StimError>
         match entry_after(latest, line) {
             Ok(entry) => {
                 latest = entry.time;
-                builder.push(alloc, &entry)?;
+                if !builder.push(alloc, &entry)? {
+                    return Err(StimError::Fault(StimFault {
+                        line: number,
+                        why: StimWhy::Line,
+                    }));
+                }
             }
             Err(why) => return Err(StimError::Fault(StimFault { line: number, why })),
         }

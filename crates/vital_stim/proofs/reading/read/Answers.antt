@@ -4,6 +4,7 @@ use Rattle.std.proofs.lemmas.Iterator.Consumers.{YieldsList-at, YieldsList-turn,
 use Rattle.std.proofs.lemmas.Iterator.Splits.{YieldsList-from_slice_split}
 use Rattle.std.proofs.lemmas.List.{length_push}
 use Rattle.vital_stim.specs.Parts.{is_line_end}
+use Rattle.vital_stim.proofs.EntryLemmas.{formed, formless}
 use Rattle.vital_stim.proofs.Progress.{next_is, passes, takes, fails, ends}
 use Rattle.vital_stim.proofs.reading.read.Goals as goal
 
@@ -17,7 +18,13 @@ pub loop-line-preserved : goal.loop-line-preserved
 loop-line-preserved c =
     let turn = YieldsList-turn (YieldsList-at c.into_iter-line-iterator.ensures.into_iter_gives (YieldsList-from_slice_split _ is_line_end c.args.text.now c.split-line-items.ensures.rest c.split-line-items.ensures.done c.split-line-items.ensures.closure (λ x b q k. search (rules, tests)))) c.loop-line.yielded _ c.loop-line.yielded_by _ _ c.in-Some.line c.in-Some.is c.next.ensures.steps in
     let next = next_is c.args.text.now (length c.loop-line.yielded) c.in-Some.line.now turn in
-    rw length_push (takes _ _ _ _ _ _ _ _ c.loop-line.invariant next (sym c.is_passed_over.ensures ∙ c.if-is_passed_over.false) (sym c.in-Ok.ensures) c.in_ok-push-in-Ok.ensures.held c.in_ok-push-in-Ok.ensures.count)
+    rw length_push (takes _ _ _ _ _ _ _ _ c.loop-line.invariant next (sym c.is_passed_over.ensures ∙ c.if-is_passed_over.false) (formed c.in-Ok.entry _ c.in-Ok.ensures (sym (c.in_ok-push-in-Ok.ensures.form c.loop-line.invariant.stimuli c.loop-line.invariant.held) ∙ c.if-not-branch.false)) (c.in_ok-push-in-Ok.ensures.held c.if-not-branch.false) c.in_ok-push-in-Ok.ensures.count)
+
+pub returns-then-not-branch : goal.returns-then-not-branch
+returns-then-not-branch c =
+    let turn = YieldsList-turn (YieldsList-at c.into_iter-line-iterator.ensures.into_iter_gives (YieldsList-from_slice_split _ is_line_end c.args.text.now c.split-line-items.ensures.rest c.split-line-items.ensures.done c.split-line-items.ensures.closure (λ x b q k. search (rules, tests)))) c.loop-line.yielded _ c.loop-line.yielded_by _ _ c.in-Some.line c.in-Some.is c.next.ensures.steps in
+    let next = next_is c.args.text.now (length c.loop-line.yielded) c.in-Some.line.now turn in
+    fails _ _ _ _ _ _ _ c.loop-line.invariant next (sym c.is_passed_over.ensures ∙ c.if-is_passed_over.false) (formless c.in-Ok.entry _ c.in-Ok.ensures (sym (c.in_ok-push-in-Ok.ensures.form c.loop-line.invariant.stimuli c.loop-line.invariant.held) ∙ c.if-not-branch.true))
 
 pub returns-in-Err : goal.returns-in-Err
 returns-in-Err c =
