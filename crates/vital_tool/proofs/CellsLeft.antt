@@ -1,22 +1,25 @@
 -- The lines of cells that are written one after the other, and how a library that is refused is answered.
 use Rattle.std.proofs.Common.{◌≡◌, ℕ, zero, suc, ◌+◌, ◌<◌, List, [], ◌∷◌, ◌++◌, length, drop, map, slice_get, Some, Result, Err, sym, ap, subst, ◌∙◌, add-one, arith}
-use Rattle.std.specs.List.{flat_map}
-use Rattle.std.specs.Option.{option_map_or}
+use Rattle.std.specs.Prelude.{Option}
+use Rattle.std.specs.Option.{option_map, option_map_or}
 use Rattle.std.proofs.lemmas.Grind.{flat_map-append}
 use Rattle.std.proofs.lemmas.List.{drop_more}
 use Rattle.std.proofs.lemmas.Option.{slice_get_within, get_or_from_slice_get}
+use Rattle.vital_base.specs.declared.breach.Breach.{Breach}
 use Rattle.vital_library.specs.Gathered.{GivesLibrary}
 use Rattle.vital_library.specs.Units.{entities}
 use Rattle.vital_library.specs.declared.error.LibraryError.{LibraryError}
 use Rattle.vital_library.specs.declared.error.LibraryError.TheVariants as library
 use Rattle.vital_report.specs.Lines.{Said, bytes_of}
 use Rattle.vital_tool.specs.Answer.{Answer, text_of}
-use Rattle.vital_tool.specs.Cells.{entity_lines, entity_lines_at}
+use Rattle.vital_tool.specs.Cells.{entity_lines, entity_lines_at, finding_of, lines_of}
 use Rattle.vital_tool.specs.Refusals.{refused_at, IsLibraryRefusal}
 use Rattle.vital_tool.specs.Stages.{IsLibraryAnswer}
 use Rattle.vital_tool.specs.declared.loading.Source.{Source}
 use Rattle.vital_tool.specs.declared.refusal.Refusal.{Refusal}
 use Rattle.vital_words.specs.declared.job.Job.{Job}
+use Rattle.vital_words.specs.declared.job.NamedFile.{NamedFile}
+use Rattle.vital_nodes.specs.declared.unit.Entity.{Entity}
 use Rattle.vital_nodes.specs.declared.unit.Units.{Units}
 
 -- the line of the next of some things, and then those of the others
@@ -26,16 +29,26 @@ one_line {A} line xs i x at =
     ap (λ (ys : List A). text_of (map line ys)) (drop_more xs i x (slice_get_within xs i x at))
     ∙ ap (λ (y : A). bytes_of (line y) ++ text_of (map line (drop (i + 1) xs))) (get_or_from_slice_get xs i x x at)
 
-lines_from : {A : Type 0} (lines : A → List Said) (xs : List A) (i : ℕ) → i < length xs
-    → text_of (flat_map lines (drop i xs)) ≡ text_of (option_map_or lines (slice_get xs i) []) ++ text_of (flat_map lines (drop (suc i) xs))
-lines_from lines [] i lt = absurd (omega arith)
-lines_from lines (x ∷ xs) zero lt = flat_map-append bytes_of (lines x) (flat_map lines xs)
-lines_from lines (x ∷ xs) (suc i) lt = lines_from lines xs i (omega arith)
+abbrev lines_from : List NamedFile → List Units → ℕ → List Entity → List (Option Breach) → List ℕ
+lines_from files library i es fs = text_of (lines_of files library (drop i es) (drop i fs))
+
+lines_next : (files : List NamedFile) (library : List Units) (es : List Entity) (fs : List (Option Breach)) (i : ℕ) (f : Option Breach) → i < length es → slice_get fs i ≡ Some f
+    → lines_from files library i es fs
+    ≡ text_of (option_map_or (entity_lines library (option_map (finding_of files) f)) (slice_get es i) []) ++ lines_from files library (suc i) es fs
+lines_next files library [] fs i f lt at = absurd (omega arith)
+lines_next files library (e ∷ es) [] i f lt at = absurd (omega (arith, slice_get_within [] i f at))
+lines_next files library (e ∷ es) (g ∷ gs) zero f lt at =
+    let same : g ≡ f = cc in
+    let lines = λ (x : Option Breach). entity_lines library (option_map (finding_of files) x) e in
+    flat_map-append bytes_of (lines g) (lines_of files library es gs)
+    ∙ ap (λ (x : Option Breach). text_of (lines x) ++ text_of (lines_of files library es gs)) same
+lines_next files library (e ∷ es) (g ∷ gs) (suc i) f lt at = lines_next files library es gs i f (omega arith) at
 
 -- the lines of the next entity, and then those of the others
-pub one_entity : (files : List Units) (i : ℕ) → i < length (entities files)
-    → text_of (flat_map (entity_lines files) (drop i (entities files))) ≡ text_of (entity_lines_at files i) ++ text_of (flat_map (entity_lines files) (drop (i + 1) (entities files)))
-one_entity files i lt = rw (add-one i) (lines_from (entity_lines files) (entities files) i lt)
+pub one_entity : (files : List NamedFile) (library : List Units) (fs : List (Option Breach)) (i : ℕ) (f : Option Breach) → i < length (entities library) → slice_get fs i ≡ Some f
+    → text_of (lines_of files library (drop i (entities library)) (drop i fs))
+    ≡ text_of (entity_lines_at library (option_map (finding_of files) f) i) ++ text_of (lines_of files library (drop (i + 1) (entities library)) (drop (i + 1) fs))
+one_entity files library fs i f lt at = rw (add-one i) (lines_next files library (entities library) fs i f lt at)
 
 one_refusal : (error : LibraryError) (a b : Refusal) → IsLibraryRefusal error a → IsLibraryRefusal error b → a ≡ b
 one_refusal (library.TooManyUnits place) a b is also = is ∙ sym also

@@ -12,7 +12,9 @@ pub mod Loaded
 pub mod OneRun
 pub mod OneAnswer
 pub mod Rows
+pub mod Judged
 pub mod CellsLeft
+pub mod Checked
 pub mod FilesRead
 pub mod Parts
 pub mod CyclesLeft

@@ -4,9 +4,10 @@ use Rattle.std.specs.List.{slice_get}
 use Rattle.vital_base.specs.Shelves.{Files}
 use Rattle.vital_base.specs.Sinks.{Told}
 use Rattle.vital_base.specs.declared.place.Place.{Place}
+use Rattle.vital_level0.specs.Breaches.{HasOneFirst}
 use Rattle.vital_library.specs.Faults.{least_of, faults}
 use Rattle.vital_library.specs.Gathered.{gathered, limited, judged, refusal}
-use Rattle.vital_library.specs.Units.{units_of}
+use Rattle.vital_library.specs.Units.{entities, units_of}
 use Rattle.vital_library.specs.declared.error.LibraryError.{LibraryError}
 use Rattle.vital_library.specs.declared.error.LibraryError.TheVariants as library
 use Rattle.vital_library.specs.declared.error.TheConstants.{MOST_UNITS}
@@ -20,7 +21,7 @@ use Rattle.vital_stim.specs.Stimuli.{stim}
 use Rattle.vital_stim.specs.declared.fault.StimFault.{StimFault}
 use Rattle.vital_stim.specs.declared.stimuli.Stimuli.{Stimuli}
 use Rattle.vital_tool.specs.Answer.{Answer, ◌>>=◌, text_of, refused, not_there}
-use Rattle.vital_tool.specs.Cells.{cells_answer}
+use Rattle.vital_tool.specs.Cells.{IsCellsAnswer, cells_answer}
 use Rattle.vital_tool.specs.Loading.{all_loaded}
 use Rattle.vital_tool.specs.Outcome.{Gives, memory_failed}
 use Rattle.vital_tool.specs.Play.{port_signal}
@@ -35,6 +36,7 @@ use Rattle.vital_tool.specs.declared.refusal.Refusal.{Refusal}
 use Rattle.vital_tool.specs.declared.refusal.Refusal.TheVariants as refusals
 use Rattle.vital_tool.specs.declared.status.Status.{Status}
 use Rattle.vital_tool.specs.declared.status.Status.TheVariants.{Done, Stimulus, NoMemory}
+use Rattle.vital_tool.proofs.Judged.{one_list, some_list}
 use Rattle.vital_tool.proofs.OneRun.{one_run, started, stimuli_run}
 use Rattle.vital_tool.proofs.Texts.{appended-nil}
 use Rattle.vital_vhdl.specs.Outcomes.{IsReading}
@@ -134,9 +136,17 @@ one_play_answer until (Some file) (Some source) = one_read_stimuli file.name unt
 one_play_answer until (Some file) None = one_is not_there
 one_play_answer until None source = one_is not_there
 
-one_task_answer : (task : Task) (files : List NamedFile) (sources : List Source) (library : List Units) → IsOne (IsTaskAnswer task files sources library)
-one_task_answer (Play play) files sources library = one_play_answer play.until (slice_get files play.stim) (slice_get sources play.stim)
-one_task_answer Check files sources library = one_is (cells_answer library)
+one_cells_answer : HasOneFirst → (files : List NamedFile) (library : List Units) → IsOne (IsCellsAnswer files library)
+one_cells_answer first files library =
+    let judged = some_list first (entities library) in (
+      cells_answer files library judged.0,
+      (judged.0, judged.1, refl),
+      λ other o. o.2 ∙ ap (cells_answer files library) (one_list first (entities library) judged.0 o.0 judged.1 o.1),
+    )
+
+one_task_answer : HasOneFirst → (task : Task) (files : List NamedFile) (sources : List Source) (library : List Units) → IsOne (IsTaskAnswer task files sources library)
+one_task_answer first (Play play) files sources library = one_play_answer play.until (slice_get files play.stim) (slice_get sources play.stim)
+one_task_answer first Check files sources library = one_cells_answer first files library
 
 one_library_refusal : (error : LibraryError) → (error ≡ library.NoMemory → ⊥) → IsOne (IsLibraryRefusal error)
 one_library_refusal (library.TooManyUnits place) some = one_is (refusals.Limit UnitsLimit place)
@@ -144,37 +154,37 @@ one_library_refusal (library.Duplicate place) some = one_is (refusals.Library wh
 one_library_refusal (library.NoEntity place) some = one_is (refusals.Library why.Entity place)
 one_library_refusal library.NoMemory some = absurd (some refl)
 
-one_library : (job : Job) (sources : List Source) (outcome : Result (List Units) LibraryError) → (outcome ≡ Err library.NoMemory → ⊥) → IsOne (IsLibraryAnswer job sources outcome)
-one_library job sources (Ok files) some = one_task_answer job.task job.files sources files
-one_library job sources (Err error) some =
+one_library : HasOneFirst → (job : Job) (sources : List Source) (outcome : Result (List Units) LibraryError) → (outcome ≡ Err library.NoMemory → ⊥) → IsOne (IsLibraryAnswer job sources outcome)
+one_library first job sources (Ok files) some = one_task_answer first job.task job.files sources files
+one_library first job sources (Err error) some =
     let p = one_library_refusal error (λ e. some (ap (λ (x : LibraryError). Err x) e)) in
     (refused_at job.files p.0, (p.0, p.1, refl), λ other o. o.2 ∙ ap (refused_at job.files) (p.2 o.0 o.1))
 
-one_read_answer : (job : Job) (sources : List Source) (read : Result (List Units) Refusal) → IsOne (IsReadAnswer job sources read)
-one_read_answer job sources (Ok files) = one_library job sources (gathered files) (gathered_is files)
-one_read_answer job sources (Err r) = one_is (refused_at job.files r)
+one_read_answer : HasOneFirst → (job : Job) (sources : List Source) (read : Result (List Units) Refusal) → IsOne (IsReadAnswer job sources read)
+one_read_answer first job sources (Ok files) = one_library first job sources (gathered files) (gathered_is files)
+one_read_answer first job sources (Err r) = one_is (refused_at job.files r)
 
-one_loaded_answer : OneReading → (job : Job) (loaded : Result (List Source) Answer) → IsOne (IsLoadedAnswer job loaded)
-one_loaded_answer reads job (Ok sources) =
+one_loaded_answer : OneReading → HasOneFirst → (job : Job) (loaded : Result (List Source) Answer) → IsOne (IsLoadedAnswer job loaded)
+one_loaded_answer reads first job (Ok sources) =
     let r = one_read reads 0 4_194_304 sources in
-    let p = one_read_answer job sources r.0 in
+    let p = one_read_answer first job sources r.0 in
     (p.0, (r.0, r.1, p.1), λ other o. p.2 other (subst (λ (read : Result (List Units) Refusal). IsReadAnswer job sources read other) (r.2 o.0 o.1) o.2))
-one_loaded_answer reads job (Err e) = one_is e
+one_loaded_answer reads first job (Err e) = one_is e
 
 -- ---- one answer to words
 
-one_job_answer : OneReading → (files : Files) (j : Result Job UsageFault) → IsOne (IsJobAnswer files j)
-one_job_answer reads files (Ok job) = one_loaded_answer reads job (all_loaded files job.files)
-one_job_answer reads files (Err fault) = one_is (refused_words fault)
+one_job_answer : OneReading → HasOneFirst → (files : Files) (j : Result Job UsageFault) → IsOne (IsJobAnswer files j)
+one_job_answer reads first files (Ok job) = one_loaded_answer reads first job (all_loaded files job.files)
+one_job_answer reads first files (Err fault) = one_is (refused_words fault)
 
 -- what is given for every answer is given for the one that there is
-pub given : OneReading → (words : List (List ℕ)) (files : Files) (status : Status) (old new : Told)
+pub given : OneReading → HasOneFirst → (words : List (List ℕ)) (files : Files) (status : Status) (old new : Told)
     → ((answer : Answer) → IsJobAnswer files (job words) answer → Gives answer status old new) → (answer : Answer) × IsOnlyAnswer words files answer × Gives answer status old new
-given reads words files status old new gives =
-    let p = one_job_answer reads files (job words) in
+given reads first words files status old new gives =
+    let p = one_job_answer reads first files (job words) in
     (p.0, record { is = p.1; only = p.2 }, gives p.0 p.1)
 
 -- where memory ran out nothing is given, which is a prefix of the answer
-pub nothing_given : OneReading → (words : List (List ℕ)) (files : Files) (told : Told) → (answer : Answer) × IsOnlyAnswer words files answer × Gives answer NoMemory told told
-nothing_given reads words files told =
-    given reads words files NoMemory told told (λ answer is. memory_failed refl (0, sym (appended-nil told)))
+pub nothing_given : OneReading → HasOneFirst → (words : List (List ℕ)) (files : Files) (told : Told) → (answer : Answer) × IsOnlyAnswer words files answer × Gives answer NoMemory told told
+nothing_given reads first words files told =
+    given reads first words files NoMemory told told (λ answer is. memory_failed refl (0, sym (appended-nil told)))

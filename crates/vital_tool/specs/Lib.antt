@@ -8,6 +8,7 @@ pub mod Refusals
 pub mod Reading
 pub mod Stimuli
 pub mod Cells
+pub mod Findings
 pub mod Stages
 pub mod Given
 pub mod Outcome

@@ -6,7 +6,7 @@ use Rattle.vital_base.specs.Shelves.{Files}
 use Rattle.vital_library.specs.Gathered.{gathered}
 use Rattle.vital_library.specs.declared.error.LibraryError.{LibraryError}
 use Rattle.vital_tool.specs.Answer.{Answer, not_there}
-use Rattle.vital_tool.specs.Cells.{cells_answer}
+use Rattle.vital_tool.specs.Cells.{IsCellsAnswer}
 use Rattle.vital_tool.specs.Loading.{all_loaded}
 use Rattle.vital_tool.specs.Reading.{AreRead}
 use Rattle.vital_tool.specs.Refusals.{refused_words, refused_at, IsLibraryRefusal}
@@ -31,7 +31,7 @@ IsPlayAnswer until None source answer = answer ≡ not_there
 abbrev pub IsTaskAnswer : Task → List NamedFile → List Source → List Units → Answer → Type 0
 IsTaskAnswer (Play play) files sources library answer =
     IsPlayAnswer play.until (slice_get files play.stim) (slice_get sources play.stim) answer
-IsTaskAnswer Check files sources library answer = answer ≡ cells_answer library
+IsTaskAnswer Check files sources library answer = IsCellsAnswer files library answer
 
 -- What is answered to files that were joined into a library, or refused.
 abbrev pub IsLibraryAnswer : Job → List Source → Result (List Units) LibraryError → Answer → Type 0

@@ -1,10 +1,11 @@
 -- The exit status that stands for each way in which a run ends.
 use Rattle.std.specs.Prelude.{ℕ}
 use Rattle.vital_tool.specs.declared.status.Status.{Status}
-use Rattle.vital_tool.specs.declared.status.Status.TheVariants.{Done, Usage, Syntax, Limit, Library, Stimulus, ReadFault, WriteFault, NoMemory}
+use Rattle.vital_tool.specs.declared.status.Status.TheVariants.{Done, Found, Usage, Syntax, Limit, Library, Stimulus, ReadFault, WriteFault, NoMemory}
 
 abbrev pub number_of : Status → ℕ
 number_of Done = 0
+number_of Found = 1
 number_of Usage = 2
 number_of Syntax = 3
 number_of Limit = 4

@@ -4,6 +4,7 @@
 mod cells;
 mod cycles;
 mod driver;
+mod judging;
 mod lines;
 mod loading;
 mod reading;

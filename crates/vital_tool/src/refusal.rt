@@ -75,7 +75,7 @@ pub fn refuse_files<K: Sink>(
 }
 
 /// A place as it is printed, with the name of its file; every file of a run has one, and `nameless` stands for none.
-fn position_of<'a>(files: &'a [NamedFile], place: Place, nameless: &'a Name) -> Position<'a>
+pub fn position_of<'a>(files: &'a [NamedFile], place: Place, nameless: &'a Name) -> Position<'a>
     requires { nameless.now ≡ [] }
     ensures { spot result ≡ spot_of files.now place }
 {

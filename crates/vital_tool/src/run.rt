@@ -13,6 +13,7 @@ use crate::stages::run_job;
 use crate::status::Status;
 use std::alloc::Global;
 use vital_base::{Shelf, Sink, Word, WriteFault};
+use vital_level0::one_first_breach;
 use vital_report::{Printer, Reporter};
 use vital_vhdl::one_reading;
 use vital_words::{JobError, read_job};
@@ -52,6 +53,7 @@ pub fn run<S: Shelf, K: Sink>(
     ensures sink_never_falls { K.faults sink.old ≤ K.faults sink.new }
 {
     one_reading();
+    one_first_breach();
     let Ok(reporter) = Reporter::new(alloc) else {
         return Status::NoMemory;
     };

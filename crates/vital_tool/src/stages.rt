@@ -7,7 +7,7 @@ ghost use Rattle.vital_tool.specs.Outcome.{Runs, Stage};
 ghost use Rattle.vital_tool.specs.Stages.{IsLibraryAnswer, IsLoadedAnswer, IsTaskAnswer};
 ghost use Rattle.vital_words.specs.Given.{NamesIn};
 
-use crate::cells::print_cells;
+use crate::cells::check_cells;
 use crate::lines::refuse_long;
 use crate::loading::{NotLoaded, Source, load_files};
 use crate::reading::{Unread, read_files};
@@ -15,7 +15,7 @@ use crate::refusal::{library_refusal, refuse_files};
 use crate::status::Status;
 use crate::stimuli::play_text;
 use std::alloc::Global;
-use vital_base::{List, Shelf, Sink, WriteFault};
+use vital_base::{List, Shelf, Sink};
 use vital_library::{Library, gather};
 use vital_report::Printer;
 use vital_vhdl::{Units, vhdl_rules};
@@ -118,9 +118,6 @@ fn run_task<K: Sink>(
                 printer,
             )
         }
-        Task::Check => match print_cells(library, printer) {
-            Ok(()) => Status::Done,
-            Err(WriteFault) => Status::WriteFault,
-        },
+        Task::Check => check_cells(alloc, job.files.as_slice(), library, printer),
     }
 }

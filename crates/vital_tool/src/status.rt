@@ -6,6 +6,8 @@ ghost use Rattle.vital_tool.specs.Status.{number_of};
 pub enum Status {
     /// The answer ended well.
     Done,
+    /// `check` found a breach.
+    Found,
     /// The words are wrong.
     Usage,
     /// A text has a fault, or a token that no file goes on with.
@@ -31,6 +33,7 @@ impl Status {
     {
         match self {
             Status::Done => 0,
+            Status::Found => 1,
             Status::Usage => 2,
             Status::Syntax => 3,
             Status::Limit => 4,

@@ -58,19 +58,21 @@ fn devices_fail(rt: HostRuntime) -> Result<(), Fail> {
         ["play", "stim=s", "until=25ps"].as_slice(),
         play_rows::TWO_PORTS,
         play_rows::TWO_PORTS_LINES,
+        Status::Done,
     );
     let check = (
         ["check", "lib=s"].as_slice(),
         check_rows::RING,
-        "cell r s read\n",
+        "cell r s none L0.1 s 1 8\n",
+        Status::Found,
     );
-    let faults = [
-        (0, 1, 0, 1_000, Status::Done),
-        (2, 1, 0, 0, Status::ReadFault),
-        (0, 1, 3, 2, Status::WriteFault),
-        (0, 0, 0, 0, Status::WriteFault),
-    ];
-    for (words, text, whole) in [play, check] {
+    for (words, text, whole, ends) in [play, check] {
+        let faults = [
+            (0, 1, 0, 1_000, ends),
+            (2, 1, 0, 0, Status::ReadFault),
+            (0, 1, 3, 2, Status::WriteFault),
+            (0, 0, 0, 0, Status::WriteFault),
+        ];
         for (read, piece, write, written, status) in faults {
             let words = words_of(alloc, words)?;
             let files = files_of(alloc, &[("s", text)])?;

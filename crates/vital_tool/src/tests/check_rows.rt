@@ -57,7 +57,17 @@ begin
 end VITAL;
 "#;
 
-pub const ROWS: [Row; 20] = [
+/// An entity with three breaches: a name that does not split, which stands first; a port with an underscore; and a statement.
+const OR2: &str = "entity OR2 is
+  generic (tpd_A_Y : VitalDelayType01; tpd_Q_Y : VitalDelayType01);
+  port (A : in STD_ULOGIC; A_1 : in STD_ULOGIC; Y : out STD_ULOGIC);
+  attribute VITAL_LEVEL0 of OR2 : entity is TRUE;
+begin
+  CheckPorts (A);
+end OR2;
+";
+
+pub const ROWS: [Row; 22] = [
     (&["check"], &[], "refused usage 2 missing\n", 2),
     (&["check", "lib="], &[], "refused usage 2 value\n", 2),
     (
@@ -78,8 +88,8 @@ pub const ROWS: [Row; 20] = [
     (
         &["check", "lib=r.vhd"],
         &[("r.vhd", RING)],
-        "cell r s read\n",
-        0,
+        "cell r s none L0.1 r.vhd 1 8\n",
+        1,
     ),
     (&["check", "lib=r.vhd"], &[("r.vhd", "")], "", 0),
     (
@@ -89,13 +99,25 @@ pub const ROWS: [Row; 20] = [
         0,
     ),
     (
+        &["check", "lib=and2.vhd", "lib=r.vhd"],
+        &[("and2.vhd", AND2), ("r.vhd", RING)],
+        "cell and2 vital read\ncell r s none L0.1 r.vhd 1 8\n",
+        1,
+    ),
+    (
+        &["check", "lib=w", "lib=or2"],
+        &[("w", ""), ("or2", OR2)],
+        "cell or2 - none L0.7 or2 2 40\n",
+        1,
+    ),
+    (
         &["check", "lib=a"],
         &[(
             "a",
             "entity E is end; entity F is end; architecture B of F is begin end; architecture \\A\\ of F is begin end;",
         )],
-        "cell e - read\ncell f b read\ncell f \\A\\ read\n",
-        0,
+        "cell e - none L0.1 a 1 8\ncell f b none L0.1 a 1 25\ncell f \\A\\ none L0.1 a 1 25\n",
+        1,
     ),
     (
         &["check", "lib=b", "lib=a"],
@@ -103,8 +125,8 @@ pub const ROWS: [Row; 20] = [
             ("a", "entity E is end;"),
             ("b", "architecture A of E is begin end;"),
         ],
-        "cell e a read\n",
-        0,
+        "cell e a none L0.1 a 1 8\n",
+        1,
     ),
     (
         &["check", "lib=e.vhd"],

@@ -1,0 +1,4 @@
+use Rattle.vital_tool.proofs.stages.run_task.Goals as goal
+
+pub returns-in-Check : goal.returns-in-Check
+returns-in-Check g c = rw c.in-Check.is (rw c.as_slice-in-Check.ensures at c.check_cells.ensures)
