@@ -118,32 +118,45 @@ fn lines_of_cells_are_printed(rt: HostRuntime) -> Result<(), Fail> {
     Ok(())
 }
 
-#[test]
-fn lines_of_broken_cells_are_printed(rt: HostRuntime) -> Result<(), Fail> {
-    let alloc = rt.alloc();
-    let (entity, arch) = (&name(alloc, b"nand2")?, &name(alloc, b"vital")?);
-    let file = &name(alloc, b"f.x")?;
-    let (line, column) = (12, 3);
-    let at = Position { file, line, column };
-    for (level, number, text) in BROKEN {
-        let clause = Clause { level, number };
-        let arch = Some(arch);
-        let broken = Line::CellBroken {
-            entity,
-            arch,
-            clause,
-            at,
-        };
-        assert!(rt; is_printed(alloc, &broken, text)?);
-    }
-    let (level, number, arch) = (0, 7, None);
-    let clause = Clause { level, number };
-    let broken = Line::CellBroken {
+/// The line of a cell that breaks a clause.
+fn broken_cell<'a>(
+    entity: &'a Name,
+    arch: Option<&'a Name>,
+    clause: Clause,
+    at: Position<'a>,
+) -> Line<'a> {
+    Line::CellBroken {
         entity,
         arch,
         clause,
         at,
+    }
+}
+
+#[test]
+fn lines_of_broken_cells_are_printed(rt: HostRuntime) -> Result<(), Fail> {
+    let alloc = rt.alloc();
+    let (entity, arch) = (name(alloc, b"nand2")?, name(alloc, b"vital")?);
+    let file = name(alloc, b"f.x")?;
+    for (level, number, text) in BROKEN {
+        let at = Position {
+            file: &file,
+            line: 12,
+            column: 3,
+        };
+        let broken = broken_cell(&entity, Some(&arch), Clause { level, number }, at);
+        assert!(rt; is_printed(alloc, &broken, text)?);
+    }
+    let at = Position {
+        file: &file,
+        line: 12,
+        column: 3,
     };
+    let clause = Clause {
+        level: 0,
+        number: 7,
+    };
+    let broken = broken_cell(&entity, None, clause, at);
     let text = "cell nand2 - none L0.7 f.x 12 3\n";
     assert!(rt; is_printed(alloc, &broken, text)?);
     Ok(())
