@@ -1,5 +1,6 @@
 mod Rows
 pub mod FieldLemmas
+pub mod LineLemmas
 pub mod NumberLemmas
 pub mod EntryLemmas
 pub mod RunLemmas

@@ -1,8 +1,10 @@
 -- How far the lines of a text have been read.
-use Rattle.std.proofs.Common.{◌≡◌, ℕ, ◌+◌, ◌<◌, ◌≤◌, true, false, List, [], ◌∷◌, ◌++◌, length, drop, get_or, refl, sym, ◌∙◌, ap, Result, Ok, Err, append_assoc, append-nil, suc, add-one, drop-cons, arith}
+use Rattle.std.proofs.Common.{◌≡◌, ℕ, ◌+◌, ◌<◌, ◌≤◌, ◌^◌, true, false, List, [], ◌∷◌, ◌++◌, length, drop, get_or, refl, sym, ◌∙◌, ap, Result, Ok, Err, append_assoc, append-nil, suc, add-one, drop-cons, arith}
 use Rattle.std.proofs.Math.Seq.{drop-length}
+use Rattle.std.proofs.lemmas.List.Splits.{length-slice_split}
+use Rattle.std.proofs.lemmas.List.Sums.{count_by-le-length}
 use Rattle.vital_stim.specs.Builder.{Holds, port_count}
-use Rattle.vital_stim.specs.Parts.{lines_of, fields_of, is_passed_over}
+use Rattle.vital_stim.specs.Parts.{is_line_end, lines_of, fields_of, is_passed_over}
 use Rattle.vital_stim.specs.Stimuli.{◌>>=◌, Stimulus, stimulus_after, stimuli_from, with_ports, stim}
 use Rattle.vital_stim.specs.declared.builder.StimuliBuilder.{StimuliBuilder}
 use Rattle.vital_stim.specs.declared.fault.StimFault.{StimFault}
@@ -34,6 +36,11 @@ next-line text seen line next =
     drop-cons (lines_of text) seen line next.within
     ∙ ap (λ first. first ∷ drop (suc seen) (lines_of text)) (sym next.is)
     ∙ ap (λ n. line ∷ drop n (lines_of text)) (sym (add-one seen))
+
+-- the number of a line is small
+pub is_small : (text : List ℕ) (builder : StimuliBuilder) (number latest seen : ℕ) (line : List ℕ) → Progress text builder number latest seen → IsNext text seen line → length text ≤ 16_777_216 → number + 1 < 2 ^ 32
+is_small text builder number latest seen line so next short =
+    omega (arith, so.counted, next.within, short, length-slice_split is_line_end text, count_by-le-length is_line_end text)
 
 -- a line that is passed over
 pub passes : (text : List ℕ) (builder : StimuliBuilder) (number latest seen : ℕ) (line : List ℕ) → Progress text builder number latest seen → IsNext text seen line → is_passed_over line ≡ true → Progress text builder (number + 1) latest (seen + 1)

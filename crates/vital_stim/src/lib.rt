@@ -6,6 +6,7 @@ mod digits;
 mod entry;
 mod fault;
 mod fields;
+mod lines;
 mod port_form;
 mod reading;
 mod spellings;

@@ -8,6 +8,7 @@ use crate::builder::StimuliBuilder;
 use crate::entry::entry_after;
 use crate::fault::{StimError, StimFault, StimWhy};
 use crate::fields::is_passed_over;
+use crate::lines::Lines;
 use crate::stimuli::Stimuli;
 use std::alloc::Global;
 use vital_base::Ports;
@@ -42,7 +43,7 @@ fn read(alloc: Global, text: &[u8]) -> Result<Stimuli, StimError>
     let mut builder = StimuliBuilder::new(alloc);
     let mut latest = 0;
     let mut number = 0;
-    for line in text.split(|byte| *byte == b'\n') {
+    for line in Lines::new(text) {
         number += 1;
         if is_passed_over(line) {
             continue;

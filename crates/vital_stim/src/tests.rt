@@ -7,7 +7,7 @@ use vital_logic::to_byte;
 
 /// Texts, and what they say: the ports with their first levels, and `time port level` for each line; or the line and
 /// the test that it fails.
-const ROWS: [(&[u8], &str); 47] = [
+const ROWS: [(&[u8], &str); 48] = [
     (b"", ""),
     (
         b"0 ps a 0\n0 ps b 1\n10 ps a 1\n20 ps b 1\n30 ps a Z\n",
@@ -28,6 +28,11 @@ const ROWS: [(&[u8], &str); 47] = [
     (
         b"#\n\r5\tns \r a\t\t1\r\n6 ns a 0 \r\n",
         "a:U 5000000 0 1;6000000 0 0;",
+    ),
+    // LF beside the 32 bytes that are tested at once.
+    (
+        b"#234567890123456789012345678901\n#2345678901234567890123456789012\n#23456789012345678901234567890123\n5 ns a 2",
+        "4 Value",
     ),
     (b"5 ns a #", "1 Value"),
     (b"5\x0bns a 1", "1 Line"),
