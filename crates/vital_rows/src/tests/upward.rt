@@ -41,14 +41,23 @@ fn at(column: u32) -> Place {
 #[test]
 fn a_value_is_made_of_the_values_of_parts_in_order(rt: HostRuntime) -> Result<(), Fail> {
     let alloc = rt.alloc();
-    let either = vec![in alloc; Expr::Character(at(10), b'1'), Expr::Character(at(17), b'X')]?;
+    let either = vec![in alloc;
+        Expr::Character(at(10), b'1'),
+        Expr::Character(at(17), b'X'),
+    ]?;
     let either = Expr::Logical(at(10), Logical::Or, Items::from_vec(either));
     let items = vec![in alloc; Item::Positional(Choice::Value(either))]?;
     let parenthesized = Expr::Parenthesized(at(9), Items::from_vec(items));
-    assert_eq!(rt; fold_up(alloc, Node::Expression(&parenthesized), &LastPlace)?, at(17));
+    assert_eq!(rt;
+        fold_up(alloc, Node::Expression(&parenthesized), &LastPlace)?,
+        at(17)
+    );
     let negated = Expr::Not(at(26), Boxed::new(alloc, Expr::Character(at(30), b'0'))?);
     let operands = vec![in alloc; Expr::Character(at(1), b'0'), parenthesized, negated]?;
     let whole = Expr::Logical(at(1), Logical::And, Items::from_vec(operands));
-    assert_eq!(rt; fold_up(alloc, Node::Expression(&whole), &LastPlace)?, at(30));
+    assert_eq!(rt;
+        fold_up(alloc, Node::Expression(&whole), &LastPlace)?,
+        at(30)
+    );
     Ok(())
 }
