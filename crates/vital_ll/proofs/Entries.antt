@@ -51,16 +51,16 @@ chosen_more old mask a left k later choices low on later_is c = record {
   left_is = λ i inside h. c.left_is i inside (and_parts (has left i) (not (eqb i k)) (sym (later_is i inside) ∙ h)).0;
 }
 
-none_entered : (n i : ℕ) → let row : List (Option ℕ) = replicate n None in get_or row i None ≡ None
-none_entered zero i = refl
-none_entered (suc n) zero = refl
-none_entered (suc n) (suc i) = none_entered n i
+pub none_entered : (A : Type 0) (n i : ℕ) → let row : List (Option A) = replicate n None in get_or row i None ≡ None
+none_entered A zero i = refl
+none_entered A (suc n) zero = refl
+none_entered A (suc n) (suc i) = none_entered A n i
 
 pub row_none : (g : Grammar) (r base : ℕ) → IsPartOfRow g r base 0 (replicate 128 None) 0
 row_none g r base = record {
   size = refl;
-  sound = λ i a low h. absurd (let none = none_entered 128 i in cc);
-  entered = λ i low. has_none i ∙ ap is_some (sym (none_entered 128 i));
+  sound = λ i a low h. absurd (let none = none_entered ℕ 128 i in cc);
+  entered = λ i low. has_none i ∙ ap is_some (sym (none_entered ℕ 128 i));
   only = λ i t a low e inside chosen. absurd (omega arith);
 }
 
@@ -205,6 +205,7 @@ predictive g blocks n rows within past t r (a, b, u, other, has_a, has_b) =
 pub has_rows : (g : Grammar) (blocks n : ℕ) (rows : List (List (List (Option ℕ)))) → ((r a t : ℕ) → IsChoice g r a t → bit_of t < 128 * blocks) → n ≡ length g → AreTableRows g blocks n rows → HasRows g (128 * blocks) rows
 has_rows g blocks n rows within n_is t = record {
   size = t.size ∙ n_is;
+  sizes = λ r inside. ap (λ k. 128 * k) (sym (t.each r (omega arith)).size);
   there = λ r bit a inside e. entry_there g r blocks bit a (get_or rows r []) (t.each r (omega arith)) e;
   only = λ r a u chosen.
       let inside = (bounds_of g r a (ap is_some chosen.1)).0 in

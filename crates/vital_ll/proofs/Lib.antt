@@ -1,5 +1,6 @@
 pub mod Deriving
 pub mod Progress
+pub mod Expanding
 pub mod Parsing
 pub mod Complete
 pub mod Sound

@@ -1,6 +1,6 @@
 -- The state of reading: the tokens taken, the stack and the steps written.
 use Rattle.std.proofs.Common.{◌≡◌, ℕ, ◌+◌, ◌<◌, ◌≤◌, List, [], ◌∷◌, ◌++◌, length, take, get_or, Option, Some, None, Err, sym, ap, ◌∙◌, subst, append_assoc, arith, Bool, true, false, IsTrue, IsSome, is_some, unwrap_or, ◌↔◌}
-use Rattle.std.proofs.lemmas.List.{take_all, get_or_past}
+use Rattle.std.proofs.lemmas.List.{append-nil, take_all, get_or_past}
 use Rattle.vital_ll.specs.declared.grammar.Sym.{Sym}
 use Rattle.vital_ll.specs.declared.grammar.Sym.TheVariants.{Token, Rule}
 use Rattle.vital_ll.specs.declared.derivation.Step.{Step}
@@ -8,7 +8,10 @@ use Rattle.vital_ll.specs.Grammar.{Grammar, alternative_of}
 use Rattle.vital_ll.specs.Sentence.{end_mark, IsTreeOf, IsRefusedAt}
 use Rattle.vital_ll.specs.Choice.{IsChoice, IsWellFormed}
 use Rattle.vital_ll.specs.Readings.{IsReading}
-use Rattle.vital_ll.proofs.Deriving.{step}
+use Rattle.vital_ll.specs.Masks.{bit_of}
+use Rattle.vital_ll.specs.Expansion.{Expands, nothing, replaced}
+use Rattle.vital_ll.proofs.Expanding.{Expands-before}
+use Rattle.vital_ll.specs.Listing.{step}
 use Rattle.vital_ll.proofs.Progress.{IsProgress, IsProgress-start, IsProgress-take_next, IsProgress-expand, none_derives, refused_at, stuck_token, stuck_rule, done}
 
 -- the symbols that are left, before the end mark
@@ -56,22 +59,29 @@ refused_rule g tokens k old new r next steps p e is none =
     refuses g tokens k (refused_at g tokens k _ steps p.well_formed p.within q
     (stuck_rule g (take k tokens) (get_or tokens k end_mark) r (new ++ Token end_mark ∷ []) steps q none_here))
 
-pub expand_rule : (g : Grammar) (tokens : List ℕ) (k : ℕ) (old new pushed : List Sym) (r a next : ℕ) (chosen : List Sym) (steps more : List Step) →
-    IsParsing g tokens k old steps → old ≡ Rule r ∷ new → next ≡ get_or tokens k end_mark → ((b : ℕ) → IsChoice g r b next → Some a ≡ Some b) →
-    alternative_of g r a ≡ Some chosen → pushed ≡ chosen ++ new → more ≡ steps ++ step r a ∷ [] → IsParsing g tokens k pushed more
-expand_rule g tokens k old new pushed r a next chosen steps more p e is decided at pushed_is more_is =
-    let q = popped g tokens k old new (Rule r) steps p e in
-    let decided_here = subst (λ (x : ℕ). (b : ℕ) → IsChoice g r b x → Some a ≡ Some b) is decided in
-    let x = IsProgress-expand g (take k tokens) (get_or tokens k end_mark) r a chosen (new ++ Token end_mark ∷ []) steps p.well_formed q at
-    (λ b h. let s : Some a ≡ Some b = decided_here b h in let t : b ≡ a = cc in t) in
-    let stack_is : chosen ++ (new ++ Token end_mark ∷ []) ≡ pushed ++ Token end_mark ∷ [] =
-    sym (append_assoc chosen new (Token end_mark ∷ [])) ∙ ap (λ (l : List Sym). l ++ Token end_mark ∷ []) (sym pushed_is) in
-    record {
-      well_formed = p.well_formed;
-      within = p.within;
-      progress = subst (λ (l : List Step). IsProgress g (take k tokens) (get_or tokens k end_mark) (pushed ++ Token end_mark ∷ []) l) (sym more_is)
-          (subst (λ (l : List Sym). IsProgress g (take k tokens) (get_or tokens k end_mark) l (steps ++ step r a ∷ [])) stack_is x);
-    }
+expand_rule : (g : Grammar) (tokens : List ℕ) (k r a : ℕ) (chosen rest : List Sym) (steps : List Step) → IsParsing g tokens k (Rule r ∷ rest) steps → alternative_of g r a ≡ Some chosen →
+    ((b : ℕ) → IsChoice g r b (get_or tokens k end_mark) → a ≡ b) → IsParsing g tokens k (chosen ++ rest) (steps ++ step r a ∷ [])
+expand_rule g tokens k r a chosen rest steps p is decided = record {
+  well_formed = p.well_formed;
+  within = p.within;
+  progress = subst (λ (l : List Sym). IsProgress g (take k tokens) (get_or tokens k end_mark) l (steps ++ step r a ∷ [])) (sym (append_assoc chosen rest (Token end_mark ∷ [])))
+      (IsProgress-expand g (take k tokens) (get_or tokens k end_mark) r a chosen (rest ++ Token end_mark ∷ []) steps p.well_formed p.progress is (λ b h. sym (decided b h)));
+}
+
+expanded : (g : Grammar) (tokens : List ℕ) (k bit : ℕ) {symbols left : List Sym} {more : List Step} (steps : List Step) → ((r b : ℕ) → IsChoice g r b (get_or tokens k end_mark) → bit_of (get_or tokens k end_mark) ≡ bit) →
+    Expands g bit symbols left more → IsParsing g tokens k symbols steps → IsParsing g tokens k left (steps ++ more)
+expanded g tokens k bit {symbols = symbols} steps same nothing p = subst (IsParsing g tokens k symbols) (sym (append-nil steps)) p
+expanded g tokens k bit {left = left} steps same (replaced {r = r} {a = a} {chosen = chosen} {rest = rest} {steps = more} is decided d) p =
+    subst (IsParsing g tokens k left) (append_assoc steps (step r a ∷ []) more)
+    (expanded g tokens k bit (steps ++ step r a ∷ []) same d (expand_rule g tokens k r a chosen rest steps p is (λ b h. decided b (get_or tokens k end_mark) (same r b h) h)))
+
+-- a rule comes to what its expansion leaves
+pub expand_expansion : (g : Grammar) (tokens : List ℕ) (k r bit : ℕ) (old new left pushed : List Sym) (steps more all : List Step) → IsParsing g tokens k old steps → old ≡ Rule r ∷ new →
+    ((s b : ℕ) → IsChoice g s b (get_or tokens k end_mark) → bit_of (get_or tokens k end_mark) ≡ bit) → Expands g bit (Rule r ∷ []) left more →
+    pushed ≡ left ++ new → all ≡ steps ++ more → IsParsing g tokens k pushed all
+expand_expansion g tokens k r bit old new left pushed steps more all p e same d pushed_is all_is =
+    subst (IsParsing g tokens k pushed) (sym all_is) (subst (λ (l : List Sym). IsParsing g tokens k l (steps ++ more)) (sym pushed_is)
+    (expanded g tokens k bit steps same (Expands-before new d) (subst (λ (l : List Sym). IsParsing g tokens k l steps) e p)))
 
 at_end : (g : Grammar) (tokens : List ℕ) (k : ℕ) (stack : List Sym) (steps : List Step) → IsParsing g tokens k stack steps → stack ≡ [] →
     IsProgress g (take k tokens) (get_or tokens k end_mark) (Token end_mark ∷ []) steps

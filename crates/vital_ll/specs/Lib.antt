@@ -1,6 +1,7 @@
 pub mod Grammar
 pub mod Sentence
 pub mod Choice
+pub mod Expansion
 pub mod Table
 pub mod Pending
 pub mod Readings

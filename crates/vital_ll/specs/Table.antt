@@ -1,16 +1,17 @@
 -- The table of a predictive grammar.
-use Rattle.std.specs.Prelude.{◌≡◌, ℕ, zero, suc, ◌+◌, ◌*◌, ◌/◌, ◌%◌, ◌<◌, ◌≤◌, List, [], ◌∷◌, ◌++◌, slice_get, slice_range, length, Option, Some, None, true, IsSome, is_some, All, Contains, slice_index_or}
+use Rattle.std.specs.Prelude.{◌≡◌, ℕ, ◌+◌, ◌*◌, ◌/◌, ◌%◌, ◌<◌, ◌≤◌, List, [], length, Option, Some, None, true, IsSome, is_some, All, Contains, slice_index_or}
 use Rattle.vital_ll.specs.declared.grammar.Sym.{Sym}
 use Rattle.vital_ll.specs.declared.grammar.Sym.TheVariants.{Token, Rule}
 use Rattle.vital_ll.specs.declared.derivation.Step.{Step}
-use Rattle.vital_ll.specs.declared.table.Entry.{Entry}
+use Rattle.vital_ll.specs.declared.expansion.Expansion.{Expansion}
+use Rattle.vital_ll.specs.declared.expansion.Expansions.{Expansions}
 use Rattle.vital_ll.specs.declared.table.Table.{Table}
-use Rattle.vital_ll.specs.Listing.{step}
 use Rattle.vital_ll.specs.Grammar.{Grammar, alternative_of}
 use Rattle.vital_ll.specs.Masks.{bit_of, token_at}
 use Rattle.vital_ll.specs.Marks.{has}
-use Rattle.vital_ll.specs.Passes.{At, EachBit}
+use Rattle.vital_ll.specs.Passes.{EachBit}
 use Rattle.vital_ll.specs.Choice.{IsChoice, IsWellFormed}
+use Rattle.vital_ll.specs.Expansion.{AreExpansions}
 
 -- a kind of token below n
 abbrev pub IsBelow : ℕ → Sym → Type 0
@@ -51,64 +52,30 @@ entry_at rows bit = slice_index_or (slice_index_or rows (bit / 128) []) (bit % 1
 -- the rows of each rule, in which each token of a choice set has its bit
 pub record HasRows (g : Grammar) (bits : ℕ) (rows : List (List (List (Option ℕ)))) : Type 0 where
   pub size : length rows ≡ length g
+  pub sizes : (r : ℕ) → r < length g → bits ≡ 128 * length (slice_index_or rows r [])
   pub there : (r bit a : ℕ) → r < length g → entry_at (slice_index_or rows r []) bit ≡ Some a → IsSome (alternative_of g r a)
   pub only : (r a t : ℕ) → IsChoice g r a t → (bit_of t < bits) × (entry_at (slice_index_or rows r []) (bit_of t) ≡ Some a)
 
--- a list with more symbols at its end
-abbrev pub IsLonger : List Sym → List Sym → Type 0
-IsLonger old new = (more : List Sym) × (new ≡ old ++ more)
+-- the column of the token of a bit, from rule n on: an expansion of each rule of which an alternative has the token in its choice set
+pub record IsColumnFrom (g : Grammar) (bit : ℕ) (expansions : Expansions) (n : ℕ) (column : List (Option Expansion)) : Type 0 where
+  pub size : length column ≡ length g
+  pub are_expansions : AreExpansions g bit expansions column
+  pub complete : (r a t : ℕ) → n ≤ r → bit_of t ≡ bit → IsChoice g r a t → IsSome (slice_index_or column r None)
 
--- where the symbols of an alternative stand
-pub record IsEntry (g : Grammar) (symbols : List Sym) (r a : ℕ) (e : Entry) : Type 0 where
-  pub step_is : e.step ≡ step r a
-  pub order : e.start ≤ e.end
-  pub inside : e.end ≤ length symbols
-  pub is : alternative_of g r a ≡ Some (slice_range symbols e.start e.end)
+-- the columns of the first n bits
+pub record AreColumns (g : Grammar) (expansions : Expansions) (n : ℕ) (columns : List (List (Option Expansion))) : Type 0 where
+  pub size : length columns ≡ n
+  pub each : (bit : ℕ) → bit < n → IsColumnFrom g bit expansions 0 (slice_index_or columns bit [])
 
--- those of the first n alternatives of a rule
-pub record AreFirstEntries (g : Grammar) (symbols : List Sym) (r n : ℕ) (entries : List Entry) : Type 0 where
-  pub size : length entries ≡ n
-  pub each : (a : ℕ) → At entries a (IsEntry g symbols r a)
-
--- those of all its alternatives
-abbrev pub AreEntries : Grammar → List Sym → ℕ → List Entry → Type 0
-AreEntries g symbols r entries = AreFirstEntries g symbols r (length (slice_index_or g r [])) entries
-
--- those of the first n rules
-pub record AreEntriesBelow (g : Grammar) (symbols : List Sym) (n : ℕ) (entries : List (List Entry)) : Type 0 where
-  pub size : length entries ≡ n
-  pub each : (r : ℕ) → At entries r (AreEntries g symbols r)
-
--- those of all rules
-abbrev pub AreEntriesOf : Grammar → List Sym → List (List Entry) → Type 0
-AreEntriesOf g symbols entries = AreEntriesBelow g symbols (length g) entries
-
--- the entry of an alternative that may be there
-abbrev pub entry_with : List Entry → Option ℕ → Option Entry
-entry_with entries None = None
-entry_with entries (Some a) = slice_get entries a
-
--- each row's alternatives are there
-abbrev pub AreThere : List (List (List (Option ℕ))) → List (List Entry) → Type 0
-AreThere rows entries = (r bit a : ℕ) → r < length rows → entry_at (slice_index_or rows r []) bit ≡ Some a → a < length (slice_index_or entries r [])
-
--- the first n entries of the column of a bit
-abbrev pub column_of : List (List (List (Option ℕ))) → List (List Entry) → ℕ → ℕ → List (Option Entry)
-column_of rows entries bit zero = []
-column_of rows entries bit (suc n) = column_of rows entries bit n ++ entry_with (slice_index_or entries n []) (entry_at (slice_index_or rows n []) bit) ∷ []
-
--- Each column has an entry for each rule, which is one of its alternatives, and each token of a choice set has a column, in which
--- the entry is the alternative that it decides for.
+-- each token of a choice set has a column
 pub record IsTable (g : Grammar) (table : Table) : Type 0 where
   pub well_formed : IsWellFormed g
   pub some : 0 < length table.columns.items
-  pub size : (bit : ℕ) → bit < length table.columns.items → length (slice_index_or table.columns.items bit []) ≡ length g
-  pub there : (bit r : ℕ) (e : Entry) → bit < length table.columns.items → slice_index_or (slice_index_or table.columns.items bit []) r None ≡ Some e → IsEntry g table.symbols.items r e.step.alternative e
-  pub only : (r a t : ℕ) → IsChoice g r a t →
-      (bit_of t < length table.columns.items) × (e : Entry) × (slice_index_or (slice_index_or table.columns.items (bit_of t) []) r None ≡ Some e) × (e.step ≡ step r a)
+  pub columns : AreColumns g table.expansions (length table.columns.items) table.columns.items
+  pub complete : (r a t : ℕ) → IsChoice g r a t → bit_of t < length table.columns.items
 
 -- the column of a token, or some column where it has none
-pub record IsColumn (columns : List (List (Option Entry))) (t : ℕ) (column : List (Option Entry)) : Type 0 where
+pub record IsColumn (columns : List (List (Option Expansion))) (t : ℕ) (column : List (Option Expansion)) : Type 0 where
   pub bit : ℕ
   pub inside : bit < length columns
   pub is : column ≡ slice_index_or columns bit []

@@ -5,6 +5,7 @@
 mod beginnings;
 mod blocks;
 mod derivation;
+mod expansion;
 mod grammar;
 mod laws;
 mod listing;

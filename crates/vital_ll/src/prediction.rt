@@ -60,8 +60,8 @@ impl Analysis<'_> {
     }
 }
 
-/// A predictive grammar with its table: for each rule and each next token, the end mark among them, the
-/// one alternative that the token begins or follows. Contracts see the grammar.
+/// A predictive grammar with its table: for each rule and each next token, the end mark among them, what the rule comes to
+/// by the alternatives that the token begins or follows. Contracts see the grammar.
 #[derive(Debug, Drop)]
 pub struct Rules {
     grammar: RuleList,

@@ -1,11 +1,11 @@
-ghost use Rattle.std.specs.Prelude.{◌≡◌, ℕ, ◌^◌, ◌<◌, List, length, IfOk, IfErr, IsTrue, IsSome, Some, ◌↔◌, unwrap_or, slice_index_or};
+ghost use Rattle.std.specs.Prelude.{◌≡◌, ℕ, ◌^◌, ◌<◌, ◌++◌, List, length, IfOk, OnOk, IfErr, IsTrue, IsSome, Some, ◌↔◌, unwrap_or, slice_index_or};
 ghost use Rattle.std.specs.Option.{ForSome};
 ghost use Rattle.vital_ll.specs.declared.derivation.Step.{Step};
 ghost use Rattle.vital_ll.specs.declared.reading.ParseError.TheVariants.{NoMemory};
 ghost use Rattle.vital_ll.specs.Sentence.{IsTreeOf, end_mark};
 ghost use Rattle.vital_ll.specs.Refusal.{IsRefusal};
 
-use crate::derivation::Tree;
+use crate::derivation::{Step, Tree};
 use crate::grammar::Sym;
 use crate::pending::{next, push};
 use crate::prediction::Rules;
@@ -60,10 +60,20 @@ fn is_kind(next: Option<u16>, kind: u16) -> bool
     }
 }
 
+/// Appends steps. There are few, so that a loop costs less than a call that copies.
+fn append(steps: &mut Vec<Step>, more: &[Step]) -> Result<(), AllocError>
+    ensures { OnOk result (steps.new.items ≡ steps.old.items ++ more.now) }
+{
+    for step in more {
+        steps.push(*step)?;
+    }
+    Ok(())
+}
+
 /// The derivation of the tokens of these kinds, of which there is one where there is any. Else the first
 /// token that no sentence goes on with.
 ///
-/// The next token decides for the one alternative of a rule by one look-up in its column, and each step is written
+/// What a rule comes to before the next token is found by one look-up in the token's column, and each step is written
 /// once. Each turn takes a token or writes a step, so the call ends: a list of steps without an end would end in
 /// want of memory.
 pub fn parse(alloc: Global, rules: &Rules, kinds: &[u16]) -> Result<Tree, ParseError>
@@ -91,12 +101,13 @@ pub fn parse(alloc: Global, rules: &Rules, kinds: &[u16]) -> Result<Tree, ParseE
                 column = table.column(token_at(kinds, taken));
             }
             Sym::Rule(rule) => {
-                let Some(entry) = column[usize::from(rule)] else {
+                let Some(expansion) = column[usize::from(rule)] else {
                     let token = taken as u32;
                     return Err(ParseError::Refused { token });
                 };
-                steps.push(entry.step)?;
-                push(&mut left, &mut stack, table.symbols(entry))?;
+                steps.push(expansion.step)?;
+                append(&mut steps, table.expansions.more(expansion))?;
+                push(&mut left, &mut stack, table.expansions.symbols(expansion))?;
             }
         }
     }

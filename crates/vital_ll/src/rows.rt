@@ -1,4 +1,4 @@
-ghost use Rattle.std.specs.Prelude.{◌≡◌, ◌<◌, Some, None, IsSome, if◌then◌else◌, length, slice_index_or, IfOk, IfErr, IfSome, IfNone};
+ghost use Rattle.std.specs.Prelude.{◌≡◌, ◌*◌, ◌<◌, Some, None, IsSome, if◌then◌else◌, length, slice_index_or, IfOk, IfErr, IfSome, IfNone};
 ghost use Rattle.vital_ll.specs.Choice.{HasConflict, IsWellFormed};
 ghost use Rattle.vital_ll.specs.Conflict.{IsConflictAt};
 ghost use Rattle.vital_ll.specs.Grammar.{alternative_of};
@@ -99,14 +99,11 @@ impl Analysis<'_> {
 }
 
 impl Rows {
-    /// The entry of the token at this bit, or none past the last row.
+    /// The entry of the token at this bit.
     pub(crate) fn at(&self, bit: usize) -> Option<u16>
+        requires { bit < 128 * length self.now }
         ensures { result ≡ entry_at self.now bit }
     {
-        if bit / 128 < self.rows.len() {
-            self.rows[bit / 128][bit % 128]
-        } else {
-            None
-        }
+        self.rows[bit / 128][bit % 128]
     }
 }

@@ -1,13 +1,14 @@
-use Rattle.std.proofs.Common.{◌++◌, ◌∷◌, [], get_or, Some, None, refl, sym, ◌∙◌, ap, subst, arith, rules}
+use Rattle.std.proofs.Common.{List, append_assoc, ◌++◌, ◌∷◌, [], get_or, None, refl, sym, ◌∙◌, ap, subst, arith, rules}
 use Rattle.std.proofs.lemmas.List.{get_or_default}
 use Rattle.std.proofs.lemmas.List.Elements.{All-nil, All-same}
 use Rattle.vital_ll.specs.declared.grammar.Sym.{Sym}
 use Rattle.vital_ll.specs.declared.derivation.Step.{Step}
 use Rattle.vital_ll.specs.Pending.{IsFilled, symbols_of}
 use Rattle.vital_ll.specs.Sentence.{end_mark, IsTreeOf}
+use Rattle.vital_ll.specs.Expansion.{steps_in, symbols_in}
 use Rattle.vital_ll.specs.Table.{IsColumn}
-use Rattle.vital_ll.proofs.Columns.{entry_is, no_entry, same_alternative}
-use Rattle.vital_ll.proofs.Parsing.{parsing_start, refused_token, take_token, refused_rule, expand_rule, refused_end, all_read, other_token, this_token, token_inside}
+use Rattle.vital_ll.proofs.Columns.{expansion_is, no_expansion, same_bit}
+use Rattle.vital_ll.proofs.Parsing.{parsing_start, refused_token, take_token, refused_rule, expand_expansion, refused_end, all_read, other_token, this_token, token_inside}
 use Rattle.vital_ll.proofs.reading.parse.Goals as goal
 
 pub loop-symbol-init : goal.loop-symbol-init
@@ -38,30 +39,35 @@ returns-in_default-column-clause-refused c =
     let table = c.table-table.result.now in
     refused_rule c.args.rules.now c.args.kinds.now c.loop-symbol.taken (symbols_of c.loop-symbol.left.now c.loop-symbol.stack.items) (symbols_of c.next.new.left.now c.next.new.stack.items) c.in-Rule.rule (get_or c.args.kinds.now c.loop-symbol.taken end_mark) c.loop-symbol.steps.items c.loop-symbol.invariant.0
     (c.in-Some.ensures.taken ∙ ap (λ (s : Sym). s ∷ symbols_of c.next.new.left.now c.next.new.stack.items) c.in-Rule.is) refl
-    (no_entry c.args.rules.now table (get_or c.args.kinds.now c.loop-symbol.taken end_mark) c.in-Rule.rule c.loop-symbol.column.now (get_or c.loop-symbol.column.now c.from.result None) c.table-table.ensures c.loop-symbol.invariant.1
+    (no_expansion c.args.rules.now table (get_or c.args.kinds.now c.loop-symbol.taken end_mark) c.in-Rule.rule c.loop-symbol.column.now (get_or c.loop-symbol.column.now c.from.result None) c.table-table.ensures c.loop-symbol.invariant.1
     (ap (λ k. get_or c.loop-symbol.column.now k None) c.from.ensures) (λ e h. c.in_default-column.not-Some e h))
 
-pub symbols-requires-clause-order : goal.symbols-requires-clause-order
-symbols-requires-clause-order c =
-    (entry_is c.args.rules.now c.table-table.result.now (get_or c.args.kinds.now c.loop-symbol.taken end_mark) c.in-Rule.rule c.loop-symbol.column.now c.in-Some-column.entry c.table-table.ensures c.loop-symbol.invariant.1
-    (ap (λ k. get_or c.loop-symbol.column.now k None) (sym c.from.ensures) ∙ c.in-Some-column.is)).order
+pub more-requires : goal.more-requires
+more-requires c =
+    (expansion_is c.args.rules.now c.table-table.result.now (get_or c.args.kinds.now c.loop-symbol.taken end_mark) c.in-Rule.rule c.loop-symbol.column.now c.in-Some-column.expansion c.table-table.ensures c.loop-symbol.invariant.1
+    (ap (λ k. get_or c.loop-symbol.column.now k None) (sym c.from.ensures) ∙ c.in-Some-column.is)).inside
 
-pub symbols-requires-clause-inside : goal.symbols-requires-clause-inside
-symbols-requires-clause-inside c =
-    (entry_is c.args.rules.now c.table-table.result.now (get_or c.args.kinds.now c.loop-symbol.taken end_mark) c.in-Rule.rule c.loop-symbol.column.now c.in-Some-column.entry c.table-table.ensures c.loop-symbol.invariant.1
+pub symbols-requires : goal.symbols-requires
+symbols-requires c =
+    (expansion_is c.args.rules.now c.table-table.result.now (get_or c.args.kinds.now c.loop-symbol.taken end_mark) c.in-Rule.rule c.loop-symbol.column.now c.in-Some-column.expansion c.table-table.ensures c.loop-symbol.invariant.1
     (ap (λ k. get_or c.loop-symbol.column.now k None) (sym c.from.ensures) ∙ c.in-Some-column.is)).inside
 
 pub loop-symbol-preserved : goal.loop-symbol-preserved
 loop-symbol-preserved c =
+    let g = c.args.rules.now in
     let table = c.table-table.result.now in
-    let read = ap (λ k. get_or c.loop-symbol.column.now k None) (sym c.from.ensures) ∙ c.in-Some-column.is in
-    let entry = entry_is c.args.rules.now table (get_or c.args.kinds.now c.loop-symbol.taken end_mark) c.in-Rule.rule c.loop-symbol.column.now c.in-Some-column.entry c.table-table.ensures c.loop-symbol.invariant.1 read in (
-      expand_rule c.args.rules.now c.args.kinds.now c.loop-symbol.taken (symbols_of c.loop-symbol.left.now c.loop-symbol.stack.items) (symbols_of c.next.new.left.now c.next.new.stack.items) (symbols_of c.push-in-Rule.new.left.now c.push-in-Rule.new.stack.items) c.in-Rule.rule c.in-Some-column.entry.step.alternative
-          (get_or c.args.kinds.now c.loop-symbol.taken end_mark) c.symbols.result.now c.loop-symbol.steps.items c.push.new.self.items c.loop-symbol.invariant.0
-          (c.in-Some.ensures.taken ∙ ap (λ (s : Sym). s ∷ symbols_of c.next.new.left.now c.next.new.stack.items) c.in-Rule.is) refl
-          (λ b chosen. same_alternative c.args.rules.now table (get_or c.args.kinds.now c.loop-symbol.taken end_mark) c.in-Rule.rule b c.loop-symbol.column.now c.in-Some-column.entry c.table-table.ensures c.loop-symbol.invariant.1 (sym read) chosen)
-          (entry.is ∙ ap Some (sym c.symbols.ensures)) c.in_ok-push-in-Rule-2.ensures.pushed
-          (c.in_ok-push-in-Rule.ensures.items ∙ ap (λ (s : Step). c.loop-symbol.steps.items ++ s ∷ []) entry.step_is),
+    let t = get_or c.args.kinds.now c.loop-symbol.taken end_mark in
+    let column = c.loop-symbol.column.now in
+    let expansion = c.in-Some-column.expansion in
+    let new = symbols_of c.next.new.left.now c.next.new.stack.items in
+    let is = expansion_is g table t c.in-Rule.rule column expansion c.table-table.ensures c.loop-symbol.invariant.1 (ap (λ k. get_or column k None) (sym c.from.ensures) ∙ c.in-Some-column.is) in (
+      expand_expansion g c.args.kinds.now c.loop-symbol.taken c.in-Rule.rule c.loop-symbol.invariant.1.bit (symbols_of c.loop-symbol.left.now c.loop-symbol.stack.items) new (symbols_in table.expansions expansion) (symbols_of c.push-in-Rule.new.left.now c.push-in-Rule.new.stack.items)
+          c.loop-symbol.steps.items (steps_in table.expansions expansion) c.append.new.steps.items c.loop-symbol.invariant.0
+          (c.in-Some.ensures.taken ∙ ap (λ (s : Sym). s ∷ new) c.in-Rule.is)
+          (same_bit g table t column c.table-table.ensures c.loop-symbol.invariant.1) is.expands
+          (c.in_ok-push-in-Rule-2.ensures.pushed ∙ ap (λ (l : List Sym). l ++ new) c.symbols.ensures)
+          (c.in_ok-append-in-Rule.ensures ∙ ap (λ (l : List Step). l ++ c.more.result.now) c.in_ok-push-in-Rule.ensures.items ∙ append_assoc c.loop-symbol.steps.items (expansion.step ∷ []) c.more.result.now
+          ∙ ap (λ (l : List Step). c.loop-symbol.steps.items ++ expansion.step ∷ l) c.more.ensures),
       c.loop-symbol.invariant.1,
       c.in_ok-push-in-Rule-2.ensures.filled,
     )

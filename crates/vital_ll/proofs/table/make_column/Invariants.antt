@@ -1,6 +1,14 @@
-use Rattle.std.proofs.Common.{◌≡◌, ◌-◌, ◌++◌, length, replicate, None}
-use Rattle.vital_ll.specs.Table.{column_of}
+use Rattle.std.proofs.Common.{◌≤◌, length}
+use Rattle.vital_ll.specs.Expansion.{AreLonger}
+use Rattle.vital_ll.specs.Table.{IsColumnFrom}
 use Rattle.vital_ll.proofs.table.make_column.Given as goal
 
 abbrev pub invariant-loop-rule : goal.invariant-loop-rule
-invariant-loop-rule l = l.column.items ≡ column_of l.rows l.entries l.bit l.rule ++ replicate (length l.rows - l.rule) None
+invariant-loop-rule l = record {
+  below : l.rule ≤ length l.rows;
+  kept : AreLonger l.initial.expansions l.expansions;
+  column : IsColumnFrom l.rules l.bit l.expansions l.rule l.column.items;
+}
+
+abbrev pub decreases-loop-rule : goal.decreases-loop-rule
+decreases-loop-rule l = l.rule
