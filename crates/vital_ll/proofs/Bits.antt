@@ -1,5 +1,5 @@
 -- Bits of masks.
-use Rattle.std.proofs.Common.{◌≡◌, ℕ, zero, suc, ◌+◌, ◌-◌, ◌*◌, ◌%◌, ◌^◌, ◌<◌, ◌≤◌, min, max, Bool, true, false, not, ◌||◌, ◌&&◌, cond, eqb, refl, sym, ap, ◌∙◌, subst, arith, inl, inr, ◌⊎◌}
+use Rattle.std.proofs.Common.{◌≡◌, ℕ, zero, suc, ◌+◌, ◌-◌, ◌*◌, ◌%◌, ◌^◌, ◌<◌, ◌≤◌, min, max, Bool, true, false, not, ◌||◌, ◌&&◌, eqb, Some, None, refl, sym, ap, ◌∙◌, subst, arith, inl, inr, ◌⊎◌}
 use mir.Syntax.{w128}
 use mir.Val.{bool_byte}
 use Rattle.std.specs.Int.{bit_at, bit_not, trailing_zeros}
@@ -7,9 +7,9 @@ use Rattle.std.specs.Int.Bits.{bit_or, bit_and}
 use Rattle.std.proofs.lemmas.Bool.{eqb-true, eq-eqb, ne_eqb, cases_eq, and_right}
 use Rattle.std.proofs.lemmas.Nat.{and_le_l}
 use Rattle.std.proofs.lemmas.Nat.Bits.{bit_at_or, bit_at_and, bit_at-lt, bit_at-zero, bit_at-suc, bit_at_ones, bit_at_clear_same, bit_at_clear_other, bit_at_set_same, bit_at_set_other, bit_at-trailing_zeros}
-use Rattle.vital_ll.specs.Marks.{has}
+use Rattle.vital_ll.specs.Marks.{has, is_of_kind}
 use Rattle.vital_ll.specs.Masks.{token_at, bit_of}
-use Rattle.vital_ll.specs.Sentence.{end_mark}
+use Rattle.vital_ll.specs.Sentence.{Next}
 
 max_or : (a b : ℕ) → a < 2 → b < 2 → eqb (max a b) 1 ≡ (eqb a 1 || eqb b 1)
 max_or zero zero h k = refl
@@ -62,13 +62,13 @@ has_shifted k i h =
     alone j = has-or 0 (1 * 2 ^ k % 2 ^ 128) j ∙ ap (λ (b : Bool). b || has (1 * 2 ^ k % 2 ^ 128) j) (has_none j)
 
 -- the token of a bit is of the kind where the bit is that of the kind
-kind_at : (kind bit : ℕ) → kind < 65536 → eqb kind (token_at bit) ≡ eqb bit (kind + 1)
-kind_at kind zero low = same_test kind 65536 0 (kind + 1) (λ e. absurd (omega arith)) (λ e. absurd (omega arith))
-kind_at kind (suc t) low = same_test kind t (suc t) (kind + 1) (λ e. omega arith) (λ e. omega arith)
+kind_at : (kind bit : ℕ) → is_of_kind kind (token_at bit) ≡ eqb bit (kind + 1)
+kind_at kind zero = sym (ne_eqb 0 (kind + 1) (λ e. omega arith))
+kind_at kind (suc t) = same_test kind t (suc t) (kind + 1) (λ e. omega arith) (λ e. omega arith)
 
-pub kind_inside : (kind base i : ℕ) → kind < 65536 → base ≤ kind + 1 → (kind + 1) - base < 128 → has (1 * 2 ^ ((kind + 1) - base) % 2 ^ 128) i ≡ eqb kind (token_at (base + i))
-kind_inside kind base i low above within =
-    has_shifted ((kind + 1) - base) i within ∙ same_test i ((kind + 1) - base) (base + i) (kind + 1) (λ e. omega arith) (λ e. omega arith) ∙ sym (kind_at kind (base + i) low)
+pub kind_inside : (kind base i : ℕ) → base ≤ kind + 1 → (kind + 1) - base < 128 → has (1 * 2 ^ ((kind + 1) - base) % 2 ^ 128) i ≡ is_of_kind kind (token_at (base + i))
+kind_inside kind base i above within =
+    has_shifted ((kind + 1) - base) i within ∙ same_test i ((kind + 1) - base) (base + i) (kind + 1) (λ e. omega arith) (λ e. omega arith) ∙ sym (kind_at kind (base + i))
 
 -- one more rule of symbols that can begin with a token
 pub begin_more : (found empty first nullable rest : Bool) → ((found || (empty && first)) || ((empty && nullable) && rest)) ≡ (found || (empty && (first || (nullable && rest))))
@@ -111,7 +111,7 @@ pub and_same : (a b c : Bool) → ((a && b) && c) ≡ (a && (b && c))
 and_same true b c = refl
 and_same false b c = refl
 
--- the end mark's bit, which is the first of the first block
+-- the end's bit, which is the first of the first block
 only_lowest : (i : ℕ) → has 1 i ≡ true → i ≡ 0
 only_lowest zero h = refl
 only_lowest (suc i) h = absurd (let e : bit_at 1 (suc i) ≡ 0 = bit_at-suc 1 i ∙ bit_at-zero i in let f : bit_at 1 (suc i) ≡ 1 = eqb-true (bit_at 1 (suc i)) 1 h in omega arith)
@@ -138,9 +138,6 @@ bit_end base i end e h =
     ]
 
 -- the token of a token's bit
-pub token_at-bit : (t : ℕ) → token_at (bit_of t) ≡ t
-token_at-bit t =
-    elim (cases_eq t end_mark) [
-      | inl e ↦ ap token_at (ap (λ (b : Bool). cond b 0 (t + 1)) (eq-eqb t end_mark e)) ∙ sym e
-      | inr n ↦ ap token_at (ap (λ (b : Bool). cond b 0 (t + 1)) (ne_eqb t end_mark n) ∙ (let f : t + 1 ≡ suc t = omega arith in f))
-    ]
+pub token_at-bit : (t : Next) → token_at (bit_of t) ≡ t
+token_at-bit None = refl
+token_at-bit (Some k) = ap token_at (let f : k + 1 ≡ suc k = omega arith in f)

@@ -9,6 +9,7 @@ use Rattle.vital_ll.specs.declared.grammar.Sym.{Sym}
 use Rattle.vital_ll.specs.declared.grammar.Sym.TheVariants.{Token, Rule}
 use Rattle.vital_ll.specs.declared.derivation.Step.{Step}
 use Rattle.vital_ll.specs.Grammar.{Grammar, alternative_of, Derives, nothing, token, rule}
+use Rattle.vital_ll.specs.Sentence.{Next}
 use Rattle.vital_ll.specs.Choice.{IsChoice, IsPredictive, IsNamed, IsWellFormed}
 use Rattle.vital_ll.specs.Marks.{Marks, empties, begins}
 use Rattle.vital_ll.specs.Masks.{MaskTable, nullable_at, first_at, follow_at, bit_of, is_within, mask_of, follows_within, is_closed_rule, are_closed_from, are_closed, are_apart, decides_from, decides, choice_mask}
@@ -16,29 +17,30 @@ use Rattle.vital_ll.specs.Ranks.{names_below, alternatives_below, rules_below, r
 use Rattle.vital_ll.proofs.Deriving.{Derives-append}
 use Rattle.vital_ll.proofs.Progress.{all_named}
 use Rattle.vital_ll.proofs.Complete.{AreClosed, choice_marked}
+use Rattle.vital_ll.proofs.Sound.{kind_is}
 
 -- the token's bit is set
-abbrev pub Has : ℕ → ℕ → Type 0
+abbrev pub Has : ℕ → Next → Type 0
 Has m t = bit_at m (bit_of t) ≡ 1
 
-within_has : (a b t : ℕ) → is_within a b ≡ true → Has a t → Has b t
+within_has : (a b : ℕ) (t : Next) → is_within a b ≡ true → Has a t → Has b t
 within_has a b t e h =
     let same : bit_or a b ≡ b = eqb-true (bit_or a b) b e in
     let at : bit_at b (bit_of t) ≡ max (bit_at a (bit_of t)) (bit_at b (bit_of t)) = ap (λ (x : ℕ). bit_at x (bit_of t)) (sym same) ∙ bit_at_or a b (bit_of t) in
     let low : bit_at b (bit_of t) < 2 = bit_at-lt b (bit_of t) in
     omega arith
 
-or_left_has : (a b t : ℕ) → Has a t → Has (bit_or a b) t
+or_left_has : (a b : ℕ) (t : Next) → Has a t → Has (bit_or a b) t
 or_left_has a b t h =
     let at : bit_at (bit_or a b) (bit_of t) ≡ max (bit_at a (bit_of t)) (bit_at b (bit_of t)) = bit_at_or a b (bit_of t) in
     let low : bit_at b (bit_of t) < 2 = bit_at-lt b (bit_of t) in omega arith
 
-or_right_has : (a b t : ℕ) → Has b t → Has (bit_or a b) t
+or_right_has : (a b : ℕ) (t : Next) → Has b t → Has (bit_or a b) t
 or_right_has a b t h =
     let at : bit_at (bit_or a b) (bit_of t) ≡ max (bit_at a (bit_of t)) (bit_at b (bit_of t)) = bit_at_or a b (bit_of t) in
     let low : bit_at a (bit_of t) < 2 = bit_at-lt a (bit_of t) in omega arith
 
-apart_has : (a b t : ℕ) → eqb (bit_and a b) 0 ≡ true → Has a t → Has b t → ⊥
+apart_has : (a b : ℕ) (t : Next) → eqb (bit_and a b) 0 ≡ true → Has a t → Has b t → ⊥
 apart_has a b t e h k =
     let none : bit_and a b ≡ 0 = eqb-true (bit_and a b) 0 e in
     let at : bit_at (bit_and a b) (bit_of t) ≡ min (bit_at a (bit_of t)) (bit_at b (bit_of t)) = bit_at_and a b (bit_of t) in
@@ -46,24 +48,24 @@ apart_has a b t e h k =
     omega arith
 
 -- the marks of one token that a table of masks has
-abbrev first_marks : MaskTable → ℕ → Marks
+abbrev first_marks : MaskTable → Next → Marks
 first_marks table t r = eqb (bit_at (first_at table r) (bit_of t)) 1
 
-abbrev follow_marks : MaskTable → ℕ → Marks
+abbrev follow_marks : MaskTable → Next → Marks
 follow_marks table t r = eqb (bit_at (follow_at table r) (bit_of t)) 1
 
-marks_has : (m t : ℕ) → eqb (bit_at m (bit_of t)) 1 ≡ true → Has m t
+marks_has : (m : ℕ) (t : Next) → eqb (bit_at m (bit_of t)) 1 ≡ true → Has m t
 marks_has m t e = eqb-true (bit_at m (bit_of t)) 1 e
 
-has_marks : (m t : ℕ) → Has m t → eqb (bit_at m (bit_of t)) 1 ≡ true
+has_marks : (m : ℕ) (t : Next) → Has m t → eqb (bit_at m (bit_of t)) 1 ≡ true
 has_marks m t h = eq-eqb (bit_at m (bit_of t)) 1 h
 
 -- a token with which symbols can begin by the marks is in their mask
-mask_has : (table : MaskTable) (t after : ℕ) (b : Bool) (symbols : List Sym) → (b ≡ true → Has after t) →
+mask_has : (table : MaskTable) (t : Next) (after : ℕ) (b : Bool) (symbols : List Sym) → (b ≡ true → Has after t) →
     begins (nullable_at table) (first_marks table t) t b symbols ≡ true → Has (mask_of table after symbols) t
 mask_has table t after b [] h e = h e
 mask_has table t after b (Token u ∷ rest) h e =
-    subst (λ (x : ℕ). bit_at (2 ^ bit_of u) (bit_of x) ≡ 1) (eqb-true u t e) (bit_at-pow_same (bit_of u))
+    subst (λ (x : Next). bit_at (2 ^ bit_of (Some u)) (bit_of x) ≡ 1) (sym (kind_is u t e)) (bit_at-pow_same (bit_of (Some u)))
 mask_has table t after b (Rule r ∷ rest) h e =
     elim (or_cases (first_marks table t r) (nullable_at table r && begins (nullable_at table) (first_marks table t) t b rest) e) [
       | inl f ↦ or_left_has (first_at table r) (cond (nullable_at table r) (mask_of table after rest) 0) t (marks_has (first_at table r) t f)
@@ -105,7 +107,7 @@ closed_from table n (alternatives ∷ rules) (suc r) a c e at =
     subst (λ (x : ℕ). RuleClosed table x c) (let f : (n + 1) + r ≡ n + suc r = omega arith in f) (closed_from table (n + 1) rules r a c p.1 at)
 
 -- so the marks of each token are closed
-follows_has : (table : MaskTable) (after t : ℕ) (b : Bool) (before rest : List Sym) (s : ℕ) → follows_within table after (before ++ Rule s ∷ rest) ≡ true → (b ≡ true → Has after t) →
+follows_has : (table : MaskTable) (after : ℕ) (t : Next) (b : Bool) (before rest : List Sym) (s : ℕ) → follows_within table after (before ++ Rule s ∷ rest) ≡ true → (b ≡ true → Has after t) →
     begins (nullable_at table) (first_marks table t) t b rest ≡ true → Has (follow_at table s) t
 follows_has table after t b [] rest s e h on =
     let p = and_parts (is_within (mask_of table after rest) (follow_at table s)) (follows_within table after rest) e in
@@ -124,7 +126,7 @@ pub empty_by_masks : (g : Grammar) (table : MaskTable) (r a : ℕ) (c : List Sym
 empty_by_masks g table r a c e is empty =
     let p = and_parts (is_within 1 (follow_at table 0)) (are_closed_from table 0 g) e in (closed_at g table r a c p.1 is).empty empty
 
-marks_closed : (g : Grammar) (table : MaskTable) (t : ℕ) → are_closed g table ≡ true → AreClosed g (nullable_at table) (first_marks table t) (λ r. true) (follow_marks table t) t
+marks_closed : (g : Grammar) (table : MaskTable) (t : Next) → are_closed g table ≡ true → AreClosed g (nullable_at table) (first_marks table t) (λ r. true) (follow_marks table t) t
 marks_closed g table t e =
     let p = and_parts (is_within 1 (follow_at table 0)) (are_closed_from table 0 g) e in
     record {
@@ -138,17 +140,17 @@ marks_closed g table t e =
           (λ x. marks_has (follow_at table r) t x) on);
       at_first = refl;
       at_end = λ x. has_marks (follow_at table 0) t (within_has 1 (follow_at table 0) t p.0
-          (subst (λ (y : ℕ). bit_at 1 (bit_of y) ≡ 1) (sym x) refl));
+          (subst (λ (y : Next). bit_at 1 (bit_of y) ≡ 1) (sym x) refl));
     }
 
 -- each token of a choice set is in the mask
-pub mask_holds : (g : Grammar) (table : MaskTable) (r a t : ℕ) (chosen : List Sym) → are_closed g table ≡ true → alternative_of g r a ≡ Some chosen → IsChoice g r a t → Has (choice_mask table r chosen) t
+pub mask_holds : (g : Grammar) (table : MaskTable) (r a : ℕ) (t : Next) (chosen : List Sym) → are_closed g table ≡ true → alternative_of g r a ≡ Some chosen → IsChoice g r a t → Has (choice_mask table r chosen) t
 mask_holds g table r a t chosen e is h =
     mask_has table t (follow_at table r) (follow_marks table t r) chosen (λ x. marks_has (follow_at table r) t x)
     (choice_marked g (nullable_at table) (first_marks table t) (λ r. true) (follow_marks table t) t r a chosen (marks_closed g table t e) is h)
 
 -- masks that are apart share no token
-apart_seen : (table : MaskTable) (after seen t : ℕ) (alternatives : List (List Sym)) (a : ℕ) (c : List Sym) → are_apart table after seen alternatives ≡ true → slice_get alternatives a ≡ Some c →
+apart_seen : (table : MaskTable) (after seen : ℕ) (t : Next) (alternatives : List (List Sym)) (a : ℕ) (c : List Sym) → are_apart table after seen alternatives ≡ true → slice_get alternatives a ≡ Some c →
     Has (mask_of table after c) t → Has seen t → ⊥
 apart_seen table after seen t [] a c e at h k = cc
 apart_seen table after seen t (d ∷ alternatives) zero c e at h k =
@@ -159,7 +161,7 @@ apart_seen table after seen t (d ∷ alternatives) (suc a) c e at h k =
     let p = and_parts (eqb (bit_and (mask_of table after d) seen) 0) (are_apart table after (bit_or (mask_of table after d) seen) alternatives) e in
     apart_seen table after (bit_or (mask_of table after d) seen) t alternatives a c p.1 at h (or_right_has (mask_of table after d) seen t k)
 
-apart_pair : (table : MaskTable) (after seen t : ℕ) (alternatives : List (List Sym)) (a b : ℕ) (c d : List Sym) → are_apart table after seen alternatives ≡ true →
+apart_pair : (table : MaskTable) (after seen : ℕ) (t : Next) (alternatives : List (List Sym)) (a b : ℕ) (c d : List Sym) → are_apart table after seen alternatives ≡ true →
     slice_get alternatives a ≡ Some c → slice_get alternatives b ≡ Some d → (a ≡ b → ⊥) → Has (mask_of table after c) t → Has (mask_of table after d) t → ⊥
 apart_pair table after seen t [] a b c d e at bt ne h k = cc
 apart_pair table after seen t (x ∷ alternatives) zero zero c d e at bt ne h k = ne refl
@@ -177,7 +179,7 @@ apart_pair table after seen t (x ∷ alternatives) (suc a) (suc b) c d e at bt n
     let p = and_parts (eqb (bit_and (mask_of table after x) seen) 0) (are_apart table after (bit_or (mask_of table after x) seen) alternatives) e in
     apart_pair table after (bit_or (mask_of table after x) seen) t alternatives a b c d p.1 at bt (λ s. ne (ap suc s)) h k
 
-decides_pair : (table : MaskTable) (n : ℕ) (rules : Grammar) (r a b t : ℕ) (c d : List Sym) → decides_from table n rules ≡ true → alternative_of rules r a ≡ Some c → alternative_of rules r b ≡ Some d → (a ≡ b → ⊥) →
+decides_pair : (table : MaskTable) (n : ℕ) (rules : Grammar) (r a b : ℕ) (t : Next) (c d : List Sym) → decides_from table n rules ≡ true → alternative_of rules r a ≡ Some c → alternative_of rules r b ≡ Some d → (a ≡ b → ⊥) →
     Has (mask_of table (follow_at table (n + r)) c) t → Has (mask_of table (follow_at table (n + r)) d) t → ⊥
 decides_pair table n [] r a b t c d e at bt ne h k = cc
 decides_pair table n (alternatives ∷ rules) zero a b t c d e at bt ne h k =
@@ -192,7 +194,7 @@ decides_pair table n (alternatives ∷ rules) (suc r) a b t c d e at bt ne h k =
     (subst (λ (x : ℕ). Has (mask_of table (follow_at table x) c) t) f h) (subst (λ (x : ℕ). Has (mask_of table (follow_at table x) d) t) f k)
 
 -- the masks of two alternatives of a rule have no token in common
-pub masks_apart : (g : Grammar) (table : MaskTable) (r a b t : ℕ) (c d : List Sym) → decides g table ≡ true → alternative_of g r a ≡ Some c → alternative_of g r b ≡ Some d → (a ≡ b → ⊥) →
+pub masks_apart : (g : Grammar) (table : MaskTable) (r a b : ℕ) (t : Next) (c d : List Sym) → decides g table ≡ true → alternative_of g r a ≡ Some c → alternative_of g r b ≡ Some d → (a ≡ b → ⊥) →
     Has (choice_mask table r c) t → Has (choice_mask table r d) t → ⊥
 masks_apart g table r a b t c d apart is_c is_d ne h k =
     let f : r ≡ 0 + r = omega arith in

@@ -6,6 +6,7 @@ use Rattle.vital_ll.specs.declared.expansion.Expansion.{Expansion}
 use Rattle.vital_ll.specs.declared.expansion.Expansions.{Expansions}
 use Rattle.vital_ll.specs.declared.table.Table.{Table}
 use Rattle.vital_ll.specs.Grammar.{Grammar}
+use Rattle.vital_ll.specs.Sentence.{Next}
 use Rattle.vital_ll.specs.Choice.{IsChoice, IsWellFormed}
 use Rattle.vital_ll.specs.Masks.{bit_of}
 use Rattle.vital_ll.specs.Expansion.{IsDecided, IsExpansion, AreLonger}
@@ -92,19 +93,23 @@ decided g bits bit r a rows rows_are is b t same chosen =
     let both : Some a ≡ Some b = sym is ∙ ap (λ (k : ℕ). entry_at (get_or rows r []) k) (sym same) ∙ at in cc
 
 -- the column that is read
-read_column : (g : Grammar) (table : Table) (t : ℕ) (column : List (Option Expansion)) → IsTable g table → (c : IsColumn table.columns.items t column) → IsColumnFrom g c.bit table.expansions 0 column
+read_column : (g : Grammar) (table : Table) (t : Next) (column : List (Option Expansion)) → IsTable g table → (c : IsColumn table.columns.items t column) → IsColumnFrom g c.bit table.expansions 0 column
 read_column g table t column table_is c = subst (IsColumnFrom g c.bit table.expansions 0) (sym c.is) (table_is.columns.each c.bit c.inside)
 
 -- is that of the token, where the token is in any choice set
-pub same_bit : (g : Grammar) (table : Table) (t : ℕ) (column : List (Option Expansion)) → IsTable g table → (c : IsColumn table.columns.items t column) → (r a : ℕ) → IsChoice g r a t → bit_of t ≡ c.bit
+pub same_bit : (g : Grammar) (table : Table) (t : Next) (column : List (Option Expansion)) → IsTable g table → (c : IsColumn table.columns.items t column) → (r a : ℕ) → IsChoice g r a t → bit_of t ≡ c.bit
 same_bit g table t column table_is c r a chosen = sym (c.token (table_is.complete r a t chosen))
 
+-- it has an entry for each rule
+pub column_size : (g : Grammar) (table : Table) (t : Next) (column : List (Option Expansion)) → IsTable g table → IsColumn table.columns.items t column → length column ≡ length g
+column_size g table t column table_is c = (read_column g table t column table_is c).size
+
 -- the entry is an expansion
-pub expansion_is : (g : Grammar) (table : Table) (t r : ℕ) (column : List (Option Expansion)) (expansion : Expansion) → IsTable g table → (c : IsColumn table.columns.items t column) → get_or column r None ≡ Some expansion → IsExpansion g c.bit table.expansions r expansion
+pub expansion_is : (g : Grammar) (table : Table) (t : Next) (r : ℕ) (column : List (Option Expansion)) (expansion : Expansion) → IsTable g table → (c : IsColumn table.columns.items t column) → get_or column r None ≡ Some expansion → IsExpansion g c.bit table.expansions r expansion
 expansion_is g table t r column expansion table_is c is = (read_column g table t column table_is c).are_expansions r expansion is
 
 -- where there is none, no alternative can be chosen
-pub no_expansion : (g : Grammar) (table : Table) (t r : ℕ) (column : List (Option Expansion)) (read : Option Expansion) → IsTable g table → IsColumn table.columns.items t column → read ≡ get_or column r None → ((expansion : Expansion) → read ≡ Some expansion → ⊥) →
+pub no_expansion : (g : Grammar) (table : Table) (t : Next) (r : ℕ) (column : List (Option Expansion)) (read : Option Expansion) → IsTable g table → IsColumn table.columns.items t column → read ≡ get_or column r None → ((expansion : Expansion) → read ≡ Some expansion → ⊥) →
     (a : ℕ) → IsChoice g r a t → ⊥
 no_expansion g table t r column read table_is c read_is none a chosen =
     let some : is_some read ≡ true = ap is_some read_is ∙ (read_column g table t column table_is c).complete r a t (omega arith) (same_bit g table t column table_is c r a chosen) chosen in

@@ -1,12 +1,12 @@
 -- Marks that are closed under the rules hold every choice set.
-use Rattle.std.proofs.Common.{◌≡◌, ℕ, Bool, true, false, ◌&&◌, List, [], ◌∷◌, ◌++◌, Some, refl, sym, ap, ◌∙◌, subst, append_assoc, inl, inr, ◌⊎◌}
+use Rattle.std.proofs.Common.{◌≡◌, ℕ, Bool, true, false, ◌&&◌, List, [], ◌∷◌, ◌++◌, Some, None, refl, sym, ap, ◌∙◌, subst, append_assoc, inl, inr, ◌⊎◌}
 use Rattle.std.proofs.lemmas.Bool.{eq-eqb, and_from, or_left, or_right, and_parts}
 use Rattle.vital_ll.specs.declared.grammar.Sym.{Sym}
 use Rattle.vital_ll.specs.declared.grammar.Sym.TheVariants.{Token, Rule}
 use Rattle.vital_ll.specs.declared.derivation.Step.{Step}
 use Rattle.vital_ll.specs.Grammar.{Grammar, alternative_of, Derives, nothing, token, rule}
-use Rattle.vital_ll.specs.Sentence.{end_mark}
-use Rattle.vital_ll.specs.Choice.{CanBegin, CanBeEmpty, IsForm, start, replaced, IsChoice}
+use Rattle.vital_ll.specs.Sentence.{Next, first_of}
+use Rattle.vital_ll.specs.Choice.{CanBegin, CanBeEmpty, CanGoOn, IsForm, start, replaced, IsChoice}
 use Rattle.vital_ll.specs.Marks.{Marks, empties, begins, EmptyClosed, FirstClosed, ReachClosed, FollowClosed}
 use Rattle.vital_ll.proofs.Deriving.{Derives-append, Derives-split, derives_at}
 
@@ -23,27 +23,27 @@ empties_complete nullable closed (rule {r = r} {a = a} {chosen = chosen} {rest =
     let p = nil_parts us vs e in
     and_from (nullable r) (empties nullable rest) (closed r a chosen is (empties_complete nullable closed d p.0)) (empties_complete nullable closed later p.1)
 
-begins_rule : (nullable first : Marks) (t : ℕ) (after : Bool) (r : ℕ) (rest : List Sym) → nullable r ≡ true → begins nullable first t after rest ≡ true →
+begins_rule : (nullable first : Marks) (t : Next) (after : Bool) (r : ℕ) (rest : List Sym) → nullable r ≡ true → begins nullable first t after rest ≡ true →
     begins nullable first t after (Rule r ∷ rest) ≡ true
 begins_rule nullable first t after r rest e f =
     or_right (first r) (nullable r && begins nullable first t after rest) (and_from (nullable r) (begins nullable first t after rest) e f)
 
 rule_begins : (g : Grammar) (nullable first : Marks) (t : ℕ) (after : Bool) (r a : ℕ) (chosen rest : List Sym) (us vs : List ℕ) (below : List Step) →
-    EmptyClosed g nullable → FirstClosed g nullable first t → alternative_of g r a ≡ Some chosen → Derives g chosen us below →
+    EmptyClosed g nullable → FirstClosed g nullable first (Some t) → alternative_of g r a ≡ Some chosen → Derives g chosen us below →
     (more : List ℕ) → us ++ vs ≡ t ∷ more →
-    ((m : List ℕ) → us ≡ t ∷ m → begins nullable first t false chosen ≡ true) →
-    ((m : List ℕ) → vs ≡ t ∷ m → begins nullable first t after rest ≡ true) →
-    begins nullable first t after (Rule r ∷ rest) ≡ true
+    ((m : List ℕ) → us ≡ t ∷ m → begins nullable first (Some t) false chosen ≡ true) →
+    ((m : List ℕ) → vs ≡ t ∷ m → begins nullable first (Some t) after rest ≡ true) →
+    begins nullable first (Some t) after (Rule r ∷ rest) ≡ true
 rule_begins g nullable first t after r a chosen rest [] vs below empty_closed first_closed is d more e in_chosen in_rest =
-    begins_rule nullable first t after r rest (empty_closed r a chosen is (empties_complete nullable empty_closed d refl)) (in_rest more e)
+    begins_rule nullable first (Some t) after r rest (empty_closed r a chosen is (empties_complete nullable empty_closed d refl)) (in_rest more e)
 rule_begins g nullable first t after r a chosen rest (u ∷ us) vs below empty_closed first_closed is d more e in_chosen in_rest =
     let same : u ≡ t = cc in
-    or_left (first r) (nullable r && begins nullable first t after rest) (first_closed r a chosen is (in_chosen us (ap (λ (x : ℕ). x ∷ us) same)))
+    or_left (first r) (nullable r && begins nullable first (Some t) after rest) (first_closed r a chosen is (in_chosen us (ap (λ (x : ℕ). x ∷ us) same)))
 
 -- what derives a list that begins with the token can begin with it
 pub begins_complete : {g : Grammar} (nullable first : Marks) (t : ℕ) (after : Bool) {symbols : List Sym} {tokens : List ℕ} {tree : List Step} →
-    EmptyClosed g nullable → FirstClosed g nullable first t → Derives g symbols tokens tree → (more : List ℕ) → tokens ≡ t ∷ more →
-    begins nullable first t after symbols ≡ true
+    EmptyClosed g nullable → FirstClosed g nullable first (Some t) → Derives g symbols tokens tree → (more : List ℕ) → tokens ≡ t ∷ more →
+    begins nullable first (Some t) after symbols ≡ true
 begins_complete nullable first t after empty_closed first_closed nothing more e = absurd (cc)
 begins_complete nullable first t after empty_closed first_closed (token {t = u} d) more e = eq-eqb u t cc
 begins_complete {g} nullable first t after empty_closed first_closed (rule {r = r} {a = a} {chosen = chosen} {rest = rest} {us = us} {vs = vs} {below = below} is d later) more e =
@@ -52,7 +52,7 @@ begins_complete {g} nullable first t after empty_closed first_closed (rule {r = 
     (λ m f. begins_complete nullable first t after empty_closed first_closed later m f)
 
 -- past rules that can be empty, what comes after
-begins_after : (nullable first : Marks) (t : ℕ) (symbols : List Sym) → empties nullable symbols ≡ true → begins nullable first t true symbols ≡ true
+begins_after : (nullable first : Marks) (t : Next) (symbols : List Sym) → empties nullable symbols ≡ true → begins nullable first t true symbols ≡ true
 begins_after nullable first t [] e = refl
 begins_after nullable first t (Token u ∷ rest) e = absurd (cc)
 begins_after nullable first t (Rule r ∷ rest) e =
@@ -60,10 +60,11 @@ begins_after nullable first t (Rule r ∷ rest) e =
     begins_rule nullable first t true r rest p.0 (begins_after nullable first t rest p.1)
 
 -- symbols that begin with the token, or are empty before what does
-pub begins_either : {g : Grammar} (nullable first : Marks) (t : ℕ) (after : Bool) (symbols : List Sym) → EmptyClosed g nullable → FirstClosed g nullable first t →
+pub begins_either : {g : Grammar} (nullable first : Marks) (t : Next) (after : Bool) (symbols : List Sym) → EmptyClosed g nullable → FirstClosed g nullable first t →
     CanBegin g symbols t ⊎ (CanBeEmpty g symbols × (after ≡ true)) → begins nullable first t after symbols ≡ true
-begins_either nullable first t after symbols empty_closed first_closed (inl (rest, tree, d)) =
-    begins_complete nullable first t after empty_closed first_closed d rest refl
+begins_either {g} nullable first t after symbols empty_closed first_closed (inl (k, rest, tree, is, d)) =
+    subst (λ (x : Next). begins nullable first x after symbols ≡ true) (sym is)
+    (begins_complete nullable first k after empty_closed (subst (FirstClosed g nullable first) is first_closed) d rest refl)
 begins_either nullable first t after symbols empty_closed first_closed (inr ((tree, d), e)) =
     subst (λ (b : Bool). begins nullable first t b symbols ≡ true) (sym e) (begins_after nullable first t symbols (empties_complete nullable empty_closed d refl))
 
@@ -90,55 +91,56 @@ side (z ∷ p) x q (y ∷ a) b e =
       | inr s ↦ inr (record { between = s.between; front_is = ap (λ l. z ∷ l) s.front_is ∙ ap (λ w. w ∷ (a ++ s.between)) (sym heads); second_is = s.second_is })
     ]
 
--- the first symbols of what is joined begin with the token, or are empty before what does
-pub begins_split : {g : Grammar} (xs ys : List Sym) (t : ℕ) → CanBegin g (xs ++ ys) t → CanBegin g xs t ⊎ (CanBeEmpty g xs × CanBegin g ys t)
-begins_split {g} xs ys t (rest, tree, d) =
+-- the first symbols of what is joined begin with the token, or are empty before what goes on
+pub go_on_split : {g : Grammar} (xs ys : List Sym) (t : Next) → CanGoOn g (xs ++ ys) t → CanBegin g xs t ⊎ (CanBeEmpty g xs × CanGoOn g ys t)
+go_on_split {g} xs ys t (tokens, tree, d, first) =
     let p = Derives-split xs ys d refl in
-    go p.us p.vs p.below p.after p.front p.back p.tokens_are
+    go p.us p.vs p.below p.after p.front p.back (ap first_of (sym p.tokens_are) ∙ first)
   where
-    go : (us vs : List ℕ) (below after : List Step) → Derives g xs us below → Derives g ys vs after → t ∷ rest ≡ us ++ vs → CanBegin g xs t ⊎ (CanBeEmpty g xs × CanBegin g ys t)
-    go [] vs below after front back e = inr ((below, front), (rest, after, derives_at (sym e) refl back))
-    go (u ∷ us) vs below after front back e = let same : u ≡ t = cc in inl (us, below, derives_at (ap (λ (x : ℕ). x ∷ us) same) refl front)
+    go : (us vs : List ℕ) (below after : List Step) → Derives g xs us below → Derives g ys vs after → first_of (us ++ vs) ≡ t → CanBegin g xs t ⊎ (CanBeEmpty g xs × CanGoOn g ys t)
+    go [] vs below after front back e = inr ((below, front), (vs, after, back, e))
+    go (u ∷ us) vs below after front back e = inl (u, us, below, sym e, front)
 
 -- a rule derives what its alternative does
-begins_folded : {g : Grammar} (before chosen after : List Sym) (r a t : ℕ) → alternative_of g r a ≡ Some chosen → CanBegin g (before ++ (chosen ++ after)) t →
-    CanBegin g (before ++ Rule r ∷ after) t
-begins_folded before chosen after r a t is (rest, tree, d) =
+go_on_folded : {g : Grammar} (before chosen after : List Sym) (r a : ℕ) (t : Next) → alternative_of g r a ≡ Some chosen → CanGoOn g (before ++ (chosen ++ after)) t →
+    CanGoOn g (before ++ Rule r ∷ after) t
+go_on_folded before chosen after r a t is (tokens, tree, d, first) =
     let p = Derives-split before (chosen ++ after) d refl in
     let q = Derives-split chosen after p.back refl in
     let e = Derives-append p.front (rule is q.front q.back) in
-    (rest, _, derives_at (sym (p.tokens_are ∙ ap (λ (l : List ℕ). p.us ++ l) q.tokens_are)) refl e)
+    (tokens, _, derives_at (sym (p.tokens_are ∙ ap (λ (l : List ℕ). p.us ++ l) q.tokens_are)) refl e, first)
 
--- each rule of the form is reached, and marked where what comes after it begins with the token
-abbrev pub AreMarked : Grammar → Marks → Marks → ℕ → List Sym → Type 0
+-- each rule of the form is reached, and marked where what comes after it goes on with the token
+abbrev pub AreMarked : Grammar → Marks → Marks → Next → List Sym → Type 0
 AreMarked g reached follow t form =
-    (p q : List Sym) (r : ℕ) → form ≡ p ++ Rule r ∷ q → (reached r ≡ true) × (CanBegin g q t → follow r ≡ true)
+    (p q : List Sym) (r : ℕ) → form ≡ p ++ Rule r ∷ q → (reached r ≡ true) × (CanGoOn g q t → follow r ≡ true)
 
-begins_token : {g : Grammar} {u t : ℕ} {rest : List Sym} {tokens more : List ℕ} {tree : List Step} → Derives g (Token u ∷ rest) tokens tree → tokens ≡ t ∷ more → u ≡ t
-begins_token (token d) e = cc
+-- no symbols go on with the end alone
+none_goes_on : {g : Grammar} {symbols : List Sym} {tokens : List ℕ} {tree : List Step} → Derives g symbols tokens tree → symbols ≡ [] → first_of tokens ≡ None
+none_goes_on nothing e = refl
+none_goes_on (token d) e = absurd (cc)
+none_goes_on (rule is d later) e = absurd (cc)
 
 not_nil : (p : List Sym) (x : Sym) (q : List Sym) → [] ≡ p ++ x ∷ q → ⊥
 not_nil [] x q e = cc
 not_nil (y ∷ p) x q e = cc
 
-marked_start : (g : Grammar) (reached follow : Marks) (t : ℕ) → reached 0 ≡ true → (t ≡ end_mark → follow 0 ≡ true) → AreMarked g reached follow t (Rule 0 ∷ Token end_mark ∷ [])
+marked_start : (g : Grammar) (reached follow : Marks) (t : Next) → reached 0 ≡ true → (t ≡ None → follow 0 ≡ true) → AreMarked g reached follow t (Rule 0 ∷ [])
 marked_start g reached follow t at_first at_end [] q r e =
-    let same : r ≡ 0 = cc in let rest : q ≡ Token end_mark ∷ [] = cc in (
+    let same : r ≡ 0 = cc in let rest : q ≡ [] = cc in (
       subst (λ (x : ℕ). reached x ≡ true) (sym same) at_first,
-      λ (more, tree, d). subst (λ (x : ℕ). follow x ≡ true) (sym same)
-          (at_end (sym (begins_token (subst (λ (l : List Sym). Derives g l (t ∷ more) tree) rest d) refl))),
+      λ (tokens, tree, d, first). subst (λ (x : ℕ). follow x ≡ true) (sym same) (at_end (sym first ∙ none_goes_on d rest)),
     )
-marked_start g reached follow t at_first at_end (x ∷ []) q r e = absurd (cc)
-marked_start g reached follow t at_first at_end (x ∷ y ∷ p) q r e = absurd (not_nil p (Rule r) q (let f : [] ≡ p ++ Rule r ∷ q = cc in f))
+marked_start g reached follow t at_first at_end (x ∷ p) q r e = absurd (not_nil p (Rule r) q (let f : [] ≡ p ++ Rule r ∷ q = cc in f))
 
-marked_replaced : (g : Grammar) (nullable first reached follow : Marks) (t : ℕ) (before after chosen : List Sym) (r a : ℕ) →
+marked_replaced : (g : Grammar) (nullable first reached follow : Marks) (t : Next) (before after chosen : List Sym) (r a : ℕ) →
     EmptyClosed g nullable → FirstClosed g nullable first t → ReachClosed g reached → FollowClosed g nullable first reached follow t →
     alternative_of g r a ≡ Some chosen → AreMarked g reached follow t (before ++ Rule r ∷ after) → AreMarked g reached follow t (before ++ (chosen ++ after))
 marked_replaced g nullable first reached follow t before after chosen r a empty_closed first_closed reach_closed follow_closed is old p q s e =
     elim (side p (Rule s) q before (chosen ++ after) e) [
       | inl f ↦
           let here = old p (f.between ++ Rule r ∷ after) s (ap (λ (l : List Sym). l ++ Rule r ∷ after) f.first_is ∙ append_assoc p (Rule s ∷ f.between) (Rule r ∷ after)) in
-          (here.0, λ b. here.1 (begins_folded f.between chosen after r a t is (subst (λ (l : List Sym). CanBegin g l t) f.rest_is b)))
+          (here.0, λ b. here.1 (go_on_folded f.between chosen after r a t is (subst (λ (l : List Sym). CanGoOn g l t) f.rest_is b)))
       | inr f ↦ elim (side f.between (Rule s) q chosen after f.second_is) [
         | inl h ↦
             let here = old before after r refl in
@@ -146,7 +148,7 @@ marked_replaced g nullable first reached follow t before after chosen r a empty_
               reach_closed r a s f.between h.between chosen_is here.0,
               λ b. follow_closed r a s f.between h.between chosen_is here.0
                   (begins_either nullable first t (follow r) h.between empty_closed first_closed
-                  (elim (begins_split h.between after t (subst (λ (l : List Sym). CanBegin g l t) h.rest_is b)) [
+                  (elim (go_on_split h.between after t (subst (λ (l : List Sym). CanGoOn g l t) h.rest_is b)) [
                     | inl x ↦ inl x
                     | inr x ↦ inr (x.0, here.1 x.1)
                   ])),
@@ -157,10 +159,10 @@ marked_replaced g nullable first reached follow t before after chosen r a empty_
       ]
     ]
 
--- each rule of each form is reached, and marked where what comes after it begins with the token
-pub forms_marked : (g : Grammar) (nullable first reached follow : Marks) (t : ℕ) {form : List Sym} →
+-- each rule of each form is reached, and marked where what comes after it goes on with the token
+pub forms_marked : (g : Grammar) (nullable first reached follow : Marks) (t : Next) {form : List Sym} →
     EmptyClosed g nullable → FirstClosed g nullable first t → ReachClosed g reached → FollowClosed g nullable first reached follow t →
-    reached 0 ≡ true → (t ≡ end_mark → follow 0 ≡ true) → IsForm g form → AreMarked g reached follow t form
+    reached 0 ≡ true → (t ≡ None → follow 0 ≡ true) → IsForm g form → AreMarked g reached follow t form
 forms_marked g nullable first reached follow t empty_closed first_closed reach_closed follow_closed at_first at_end start =
     marked_start g reached follow t at_first at_end
 forms_marked g nullable first reached follow t empty_closed first_closed reach_closed follow_closed at_first at_end (replaced before after chosen r a form is) =
@@ -168,16 +170,16 @@ forms_marked g nullable first reached follow t empty_closed first_closed reach_c
     (forms_marked g nullable first reached follow t empty_closed first_closed reach_closed follow_closed at_first at_end form)
 
 -- what the marks of one token have to be for them to hold each choice set
-pub record AreClosed (g : Grammar) (nullable first reached follow : Marks) (t : ℕ) : Type 0 where
+pub record AreClosed (g : Grammar) (nullable first reached follow : Marks) (t : Next) : Type 0 where
   pub empty_closed : EmptyClosed g nullable
   pub first_closed : FirstClosed g nullable first t
   pub reach_closed : ReachClosed g reached
   pub follow_closed : FollowClosed g nullable first reached follow t
   pub at_first : reached 0 ≡ true
-  pub at_end : t ≡ end_mark → follow 0 ≡ true
+  pub at_end : t ≡ None → follow 0 ≡ true
 
 -- a token of a choice set is marked
-pub choice_marked : (g : Grammar) (nullable first reached follow : Marks) (t r a : ℕ) (chosen : List Sym) → AreClosed g nullable first reached follow t →
+pub choice_marked : (g : Grammar) (nullable first reached follow : Marks) (t : Next) (r a : ℕ) (chosen : List Sym) → AreClosed g nullable first reached follow t →
     alternative_of g r a ≡ Some chosen → IsChoice g r a t → begins nullable first t (follow r) chosen ≡ true
 choice_marked g nullable first reached follow t r a chosen closed is (found, found_is, how) =
     let same : found ≡ chosen = cc in

@@ -12,6 +12,7 @@ use Rattle.vital_ll.specs.declared.derivation.Step.{Step}
 use Rattle.vital_ll.specs.declared.grammar.Sym.{Sym}
 use Rattle.vital_ll.specs.declared.listing.Place.{Place}
 use Rattle.vital_ll.specs.Grammar.{Grammar, alternative_of}
+use Rattle.vital_ll.specs.Sentence.{Next}
 use Rattle.vital_ll.specs.Choice.{IsChoice, HasConflict, IsPredictive, IsWellFormed}
 use Rattle.vital_ll.specs.Conflict.{IsConflict, IsConflictAt}
 use Rattle.vital_ll.specs.Marks.{Marks, has, marked, begins, FirstClosed, FollowClosed}
@@ -61,7 +62,7 @@ row_none g r base = record {
   size = refl;
   sound = λ i a low h. absurd (let none = none_entered ℕ 128 i in cc);
   entered = λ i low. has_none i ∙ ap is_some (sym (none_entered ℕ 128 i));
-  only = λ i t a low e inside chosen. absurd (omega arith);
+  only = λ i a t low e inside chosen. absurd (omega arith);
 }
 
 -- where one more alternative shares no token with those before
@@ -80,10 +81,10 @@ row_more g r base n old new seen mask size mask_is apart new_is p = record {
     | inl on ↦ or_right (has seen i) (has mask i) on ∙ ap is_some (sym (entered_on i low on))
     | inr off ↦ ap (λ (b : Bool). has seen i || b) off ∙ or_none (has seen i) ∙ p.entered i low ∙ ap is_some (sym (entered_off i low off))
   ];
-  only = λ i t a low e inside chosen. elim (cases_eq a n) [
+  only = λ i a t low e inside chosen. elim (cases_eq a n) [
     | inl same ↦ entered_on i low (mask_is.complete i t low e (subst (λ (x : ℕ). IsChoice g r x t) same chosen)) ∙ ap Some (sym same)
     | inr other ↦
-        let was : get_or old i None ≡ Some a = p.only i t a low e (omega arith) chosen in
+        let was : get_or old i None ≡ Some a = p.only i a t low e (omega arith) chosen in
         let on : has seen i ≡ true = p.entered i low ∙ ap is_some was in
         entered_off i low (elim (cases_Bool (has mask i)) [
           | inl both ↦ absurd (shared i on both)
@@ -128,7 +129,7 @@ pub row_done : (g : Grammar) (r base n seen : ℕ) (choices : List (Option ℕ))
 row_done g r base n seen choices inside n_is p = record {
   size = p.size;
   there = λ i a low h. there_at g r a inside (let q = p.sound i a low h in let before : a < n = q.0 in omega arith);
-  only = λ i t a low e chosen. p.only i t a low e (let b = bounds_of g r a (ap is_some chosen.1) in omega arith) chosen;
+  only = λ i a t low e chosen. p.only i a t low e (let b = bounds_of g r a (ap is_some chosen.1) in omega arith) chosen;
 }
 
 pub get_or_last : {A : Type 0} (xs : List A) (x d : A) (k : ℕ) → k ≡ length xs → get_or (xs ++ x ∷ []) k d ≡ x
@@ -148,9 +149,9 @@ rows_more g r k rows row row_is rows_are = record {
 }
 
 -- the entry of a token is the alternative that it decides for
-pub entry_decides : (g : Grammar) (r blocks bit t a : ℕ) (rows : List (List (Option ℕ))) → AreRows g r blocks rows → bit ≡ bit_of t → bit < 128 * blocks → IsChoice g r a t → entry_at rows bit ≡ Some a
+pub entry_decides : (g : Grammar) (r blocks bit : ℕ) (t : Next) (a : ℕ) (rows : List (List (Option ℕ))) → AreRows g r blocks rows → bit ≡ bit_of t → bit < 128 * blocks → IsChoice g r a t → entry_at rows bit ≡ Some a
 entry_decides g r blocks bit t a rows rows_are bit_is inside chosen =
-    (rows_are.each (bit / 128) (omega arith)).only (bit % 128) t a (omega arith) (let e : 128 * (bit / 128) + bit % 128 ≡ bit = omega arith in sym bit_is ∙ sym e) chosen
+    (rows_are.each (bit / 128) (omega arith)).only (bit % 128) a t (omega arith) (let e : 128 * (bit / 128) + bit % 128 ≡ bit = omega arith in sym bit_is ∙ sym e) chosen
 
 -- and one that is there
 pub entry_there : (g : Grammar) (r blocks bit a : ℕ) (rows : List (List (Option ℕ))) → AreRows g r blocks rows → entry_at rows bit ≡ Some a → IsSome (alternative_of g r a)
@@ -163,7 +164,7 @@ entry_there g r blocks bit a rows rows_are e =
     ]
 
 -- a rule that has its rows has no conflict
-pub no_conflict : (g : Grammar) (r blocks : ℕ) (rows : List (List (Option ℕ))) → ((a t : ℕ) → IsChoice g r a t → bit_of t < 128 * blocks) → AreRows g r blocks rows → HasConflict g r → ⊥
+pub no_conflict : (g : Grammar) (r blocks : ℕ) (rows : List (List (Option ℕ))) → ((a : ℕ) (t : Next) → IsChoice g r a t → bit_of t < 128 * blocks) → AreRows g r blocks rows → HasConflict g r → ⊥
 no_conflict g r blocks rows within rows_are (a, b, t, other, has_a, has_b) =
     let at_a = entry_decides g r blocks (bit_of t) t a rows rows_are refl (within a t has_a) has_a in
     let at_b = entry_decides g r blocks (bit_of t) t b rows rows_are refl (within a t has_a) has_b in
@@ -187,7 +188,7 @@ table_more g blocks n table rows rows_are t = record {
 }
 
 -- the first conflict is that of the rule after those that have rows
-pub conflict_first : (g : Grammar) (blocks n : ℕ) (table : List (List (List (Option ℕ)))) (e : RulesError) → ((r a t : ℕ) → IsChoice g r a t → bit_of t < 128 * blocks) → AreTableRows g blocks n table →
+pub conflict_first : (g : Grammar) (blocks n : ℕ) (table : List (List (List (Option ℕ)))) (e : RulesError) → ((r a : ℕ) (t : Next) → IsChoice g r a t → bit_of t < 128 * blocks) → AreTableRows g blocks n table →
     IsConflictAt g n e → IsConflict g e
 conflict_first g blocks n table (NotPredictive c) within t (same, conflict) = record {
   meets = subst (HasConflict g) (sym same) conflict;
@@ -196,13 +197,13 @@ conflict_first g blocks n table (NotPredictive c) within t (same, conflict) = re
 conflict_first g blocks n table NoMemory within t h = tt
 
 -- rows of all rules show that the grammar is predictive
-pub predictive : (g : Grammar) (blocks n : ℕ) (rows : List (List (List (Option ℕ)))) → ((r a t : ℕ) → IsChoice g r a t → bit_of t < 128 * blocks) → length g ≤ n → AreTableRows g blocks n rows → IsPredictive g
+pub predictive : (g : Grammar) (blocks n : ℕ) (rows : List (List (List (Option ℕ)))) → ((r a : ℕ) (t : Next) → IsChoice g r a t → bit_of t < 128 * blocks) → length g ≤ n → AreTableRows g blocks n rows → IsPredictive g
 predictive g blocks n rows within past t r (a, b, u, other, has_a, has_b) =
     let inside = (bounds_of g r a (ap is_some has_a.1)).0 in
     no_conflict g r blocks (get_or rows r []) (within r) (t.each r (omega arith)) (a, b, u, other, has_a, has_b)
 
 -- and have an entry for each token of a choice set
-pub has_rows : (g : Grammar) (blocks n : ℕ) (rows : List (List (List (Option ℕ)))) → ((r a t : ℕ) → IsChoice g r a t → bit_of t < 128 * blocks) → n ≡ length g → AreTableRows g blocks n rows → HasRows g (128 * blocks) rows
+pub has_rows : (g : Grammar) (blocks n : ℕ) (rows : List (List (List (Option ℕ)))) → ((r a : ℕ) (t : Next) → IsChoice g r a t → bit_of t < 128 * blocks) → n ≡ length g → AreTableRows g blocks n rows → HasRows g (128 * blocks) rows
 has_rows g blocks n rows within n_is t = record {
   size = t.size ∙ n_is;
   sizes = λ r inside. ap (λ k. 128 * k) (sym (t.each r (omega arith)).size);
@@ -214,14 +215,14 @@ has_rows g blocks n rows within n_is t = record {
 }
 
 -- the marks of a token are those that hold its choice sets
-closed_sets : (g : Grammar) (bit : ℕ) (nullable first reached follow : Marks) → (t : ℕ) → bit_of t ≡ bit → AreSets g bit nullable first reached follow → AreClosed g nullable first reached follow t
+closed_sets : (g : Grammar) (bit : ℕ) (nullable first reached follow : Marks) → (t : Next) → bit_of t ≡ bit → AreSets g bit nullable first reached follow → AreClosed g nullable first reached follow t
 closed_sets g bit nullable first reached follow t e s =
     let same : token_at bit ≡ t = ap token_at (sym e) ∙ token_at-bit t in
     record {
       empty_closed = s.nullable_is.closed;
-      first_closed = subst (λ (x : ℕ). FirstClosed g nullable first x) same s.first_is.closed;
+      first_closed = subst (λ (x : Next). FirstClosed g nullable first x) same s.first_is.closed;
       reach_closed = s.reached_is.closed;
-      follow_closed = subst (λ (x : ℕ). FollowClosed g nullable first reached follow x) same s.follow_is.closed;
+      follow_closed = subst (λ (x : Next). FollowClosed g nullable first reached follow x) same s.follow_is.closed;
       at_first = s.reached_is.at_first;
       at_end = λ f. s.follow_is.at_end (sym e ∙ ap bit_of f);
     }
@@ -236,7 +237,7 @@ choice_mask_is g r a nullable base block chosen mask well block_is is mask_is = 
   complete = λ i t low e h.
       let s = block_is.each i low in
       let same : token_at (base + i) ≡ t = ap token_at (sym e) ∙ token_at-bit t in
-      mask_is i low ∙ subst (λ (x : ℕ). begins (marked nullable i) (marked block.first.items i) x (marked block.follow.items i r) chosen ≡ true) (sym same)
+      mask_is i low ∙ subst (λ (x : Next). begins (marked nullable i) (marked block.first.items i) x (marked block.follow.items i r) chosen ≡ true) (sym same)
       (choice_marked g (marked nullable i) (marked block.first.items i) s.0 (marked block.follow.items i) t r a chosen (closed_sets g (base + i) (marked nullable i) (marked block.first.items i) s.0 (marked block.follow.items i) t e s.1) is h);
 }
 

@@ -1,23 +1,21 @@
 -- What a table of lead ranks says of each alternative.
-use Rattle.std.proofs.Common.{◌≡◌, ℕ, zero, suc, ◌+◌, true, ◌&&◌, List, [], ◌∷◌, get_or, Some, slice_get, subst, arith}
+use Rattle.std.proofs.Common.{◌≡◌, ℕ, zero, suc, ◌+◌, true, List, [], ◌∷◌, get_or, Some, slice_get, subst, arith}
 use Rattle.std.proofs.lemmas.Bool.{and_parts}
 use Rattle.vital_ll.specs.declared.grammar.Sym.{Sym}
 use Rattle.vital_ll.specs.Grammar.{Grammar, alternative_of}
 use Rattle.vital_ll.specs.Masks.{MaskTable}
-use Rattle.vital_ll.specs.Leads.{names_kinds, leads_lower, alternatives_lead_lower, rules_lead_lower, has_no_left_recursion}
+use Rattle.vital_ll.specs.Leads.{leads_lower, alternatives_lead_lower, rules_lead_lower, has_no_left_recursion}
 
 -- an alternative of a rule of this rank
 pub record LeadsLower (table : MaskTable) (leads : List ℕ) (rank : ℕ) (c : List Sym) : Type 0 where
-  pub kinds : names_kinds c ≡ true
   pub lower : leads_lower table leads rank c ≡ true
 
 -- the first of the alternatives, and the others
 lead_head : (table : MaskTable) (leads : List ℕ) (rank : ℕ) (c : List Sym) (alternatives : List (List Sym)) → alternatives_lead_lower table leads rank (c ∷ alternatives) ≡ true →
     LeadsLower table leads rank c × (alternatives_lead_lower table leads rank alternatives ≡ true)
 lead_head table leads rank c alternatives e =
-    let p = and_parts (names_kinds c && leads_lower table leads rank c) (alternatives_lead_lower table leads rank alternatives) e in
-    let q = and_parts (names_kinds c) (leads_lower table leads rank c) p.0 in
-    (record { kinds = q.0; lower = q.1 }, p.1)
+    let p = and_parts (leads_lower table leads rank c) (alternatives_lead_lower table leads rank alternatives) e in
+    (record { lower = p.0 }, p.1)
 
 -- each of the alternatives
 lead_each : (table : MaskTable) (leads : List ℕ) (rank : ℕ) (alternatives : List (List Sym)) (a : ℕ) (c : List Sym) → alternatives_lead_lower table leads rank alternatives ≡ true →

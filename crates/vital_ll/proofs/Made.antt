@@ -4,11 +4,10 @@ use Rattle.std.proofs.lemmas.List.{length-append}
 use Rattle.std.proofs.lemmas.List.Elements.{at_from_Contains}
 use Rattle.std.proofs.lemmas.Option.{slice_get-get_or}
 use Rattle.vital_ll.specs.declared.grammar.Sym.{Sym}
-use Rattle.vital_ll.specs.declared.grammar.Sym.TheVariants.{Token, Rule}
+use Rattle.vital_ll.specs.declared.grammar.Sym.TheVariants.{Rule}
 use Rattle.vital_ll.specs.declared.derivation.Step.{Step}
 use Rattle.vital_ll.specs.declared.listing.Place.{Place}
-use Rattle.vital_ll.specs.Grammar.{Grammar, alternative_of, nothing, token}
-use Rattle.vital_ll.specs.Sentence.{end_mark}
+use Rattle.vital_ll.specs.Grammar.{Grammar, alternative_of, nothing}
 use Rattle.vital_ll.specs.Choice.{CanBegin, CanBeEmpty, start, Follows, IsWellFormed}
 use Rattle.vital_ll.specs.Marks.{has, marked, IsSaturated, IsReached}
 use Rattle.vital_ll.specs.Masks.{token_at}
@@ -77,7 +76,7 @@ reached_made g steps places old new well lists_steps lists old_is len s = record
   each = λ i low. record {
     sound = λ r. s.sound (λ j q k h.
         let p = only_first (length g) (2 ^ 128 - 1) j q (ap (λ (l : List ℕ). marked l j q) (sym old_is) ∙ h) in
-        subst (λ (x : ℕ). IsReached g x) (sym p.0) ([], Token end_mark ∷ [], start)) i r low;
+        subst (λ (x : ℕ). IsReached g x) (sym p.0) ([], [], start)) i r low;
     closed = λ r a q before after is on. at_place g steps places (λ x. EachBit (λ j. ReachAt g (marked new j) x)) lists_steps lists s.settled r a q before after is i low q after (before, is, refl) on;
     at_first = s.kept i 0 (ap (λ (l : List ℕ). marked l i 0) old_is ∙ first_marked (length g) (2 ^ 128 - 1) i well.some_rule ∙ has_all i low);
   };
@@ -95,7 +94,7 @@ followed_made g steps places base nullable first reached end old new from lists_
     sound = λ r. s.sound (λ j q k h.
         let p = only_first (length g) end j q (ap (λ (l : List ℕ). marked l j q) (sym old_is) ∙ h) in
         subst (λ (x : ℕ). Follows g x (token_at (base + j))) (sym p.0)
-        ([], Token end_mark ∷ [], start, subst (λ (x : ℕ). CanBegin g (Token end_mark ∷ []) (token_at x)) (sym (is_end j p.1)) ([], [], token nothing))) i r low;
+        ([], [], start, ([], [], nothing, sym (ap token_at (is_end j p.1))))) i r low;
     closed = λ r a q before after is on e.
         at_place g steps places (λ x. EachBit (λ j. FollowAt g (marked nullable j) (marked first j) (marked reached j) (token_at (base + j)) (marked new j) x))
         lists_steps from.lists s.settled r a q before after is i low q after (before, is, refl) on e;

@@ -1,17 +1,18 @@
 -- Each list of tokens has one reading: from state to state while tokens are left, and at one token down the lead ranks.
-use Rattle.std.proofs.Common.{◌≡◌, ℕ, zero, suc, ◌+◌, ◌<◌, ◌≤◌, Bool, true, false, ◌&&◌, cond, ltb, List, [], ◌∷◌, ◌++◌, length, take, get_or, Result, Ok, Err, refl, sym, ap, subst, arith, inl, inr, ◌⊎◌}
+use Rattle.std.proofs.Common.{◌≡◌, ℕ, zero, suc, ◌+◌, ◌<◌, ◌≤◌, Bool, true, false, ◌&&◌, cond, ltb, List, [], ◌∷◌, ◌++◌, length, take, get_or, slice_get, Some, None, Result, Ok, Err, refl, sym, ap, ◌∙◌, subst, arith, inl, inr, ◌⊎◌}
 use Rattle.std.proofs.lemmas.Bool.{cases_eq, cases_lt, and_parts, and_from, ltb-true}
-use Rattle.std.proofs.lemmas.List.{get_or_past, take_all}
+use Rattle.std.proofs.lemmas.List.{take_all}
+use Rattle.std.proofs.lemmas.Option.{slice_get_within, slice_get_past, slice_get-get_or}
 use Rattle.vital_ll.specs.declared.grammar.Sym.{Sym}
 use Rattle.vital_ll.specs.declared.grammar.Sym.TheVariants.{Token, Rule}
 use Rattle.vital_ll.specs.declared.derivation.Step.{Step}
 use Rattle.vital_ll.specs.Grammar.{Grammar}
-use Rattle.vital_ll.specs.Sentence.{end_mark, IsTreeOf, IsRefusedAt}
+use Rattle.vital_ll.specs.Sentence.{Next, IsTreeOf, IsRefusedAt}
 use Rattle.vital_ll.specs.Choice.{IsWellFormed}
 use Rattle.vital_ll.specs.Marks.{empties}
 use Rattle.vital_ll.specs.Masks.{MaskTable, nullable_at, are_closed, decides}
 use Rattle.vital_ll.specs.Ranks.{are_ranked}
-use Rattle.vital_ll.specs.Leads.{names_kinds, leads_lower, has_no_left_recursion}
+use Rattle.vital_ll.specs.Leads.{leads_lower, has_no_left_recursion}
 use Rattle.vital_ll.specs.Readings.{IsReading}
 use Rattle.vital_ll.proofs.Deriving.{step}
 use Rattle.vital_ll.proofs.Progress.{IsProgress, IsProgress-start, IsProgress-take_next, IsProgress-expand, none_derives, refused_at, stuck_token, stuck_rule, stuck_end, done}
@@ -30,7 +31,7 @@ pub record Tables (g : Grammar) (table : MaskTable) (leads : List ℕ) : Type 0 
 pub record State (g : Grammar) (tokens : List ℕ) (k : ℕ) (symbols : List Sym) : Type 0 where
   pub steps : List Step
   pub within : k ≤ length tokens
-  pub progress : IsProgress g (take k tokens) (get_or tokens k end_mark) symbols steps
+  pub progress : IsProgress g (take k tokens) (slice_get tokens k) symbols steps
 
 -- some token is the first that no sentence goes on with
 abbrev Refusal : Grammar → List ℕ → Type 0
@@ -51,23 +52,35 @@ Passing g tokens k empty rest = Passed g tokens k empty rest ⊎ Refusal g token
 abbrev PassesRule : Grammar → MaskTable → List ℕ → ℕ → ℕ → Type 0
 PassesRule g table tokens k r = (rest : List Sym) → State g tokens k (Rule r ∷ rest) → Passing g tokens k (nullable_at table r) rest
 
+-- what is next: a token, or the end
+next_cases : (tokens : List ℕ) (k : ℕ) → ((t : ℕ) × (slice_get tokens k ≡ Some t)) ⊎ ((length tokens ≤ k) × (slice_get tokens k ≡ None))
+next_cases tokens k =
+    elim (cases_lt k (length tokens)) [
+      | inl inside ↦ inl (get_or tokens k 0, slice_get-get_or tokens k 0 inside)
+      | inr past ↦ inr (past, slice_get_past tokens k past)
+    ]
+
 -- a token that a rule names is taken, or refused
-take_or_refuse : (g : Grammar) (table : MaskTable) (leads tokens : List ℕ) (k u : ℕ) (rest : List Sym) → Tables g table leads → u < end_mark →
+take_or_refuse : (g : Grammar) (table : MaskTable) (leads tokens : List ℕ) (k u : ℕ) (rest : List Sym) → Tables g table leads →
     State g tokens k (Token u ∷ rest) → State g tokens (k + 1) rest ⊎ Refusal g tokens
-take_or_refuse g table leads tokens k u rest tables low s =
-    elim (cases_eq u (get_or tokens k end_mark)) [
-      | inl same ↦ inl (taken same (cases_lt k (length tokens)))
-      | inr other ↦ inr (k, refused_at g tokens k (Token u ∷ rest) s.steps tables.well_formed s.within s.progress (stuck_token g u (get_or tokens k end_mark) rest other))
+take_or_refuse g table leads tokens k u rest tables s =
+    elim (next_cases tokens k) [
+      | inl (t, is) ↦ elim (cases_eq t u) [
+        | inl same ↦ inl (taken (is ∙ ap Some same))
+        | inr other ↦ inr (refused (λ (e : slice_get tokens k ≡ Some u). other (let both : Some t ≡ Some u = sym is ∙ e in cc)))
+      ]
+      | inr (past, none) ↦ inr (refused (λ (e : slice_get tokens k ≡ Some u). cc))
     ]
   where
-    taken : u ≡ get_or tokens k end_mark → (k < length tokens) ⊎ (length tokens ≤ k) → State g tokens (k + 1) rest
-    taken same (inl inside) = record { steps = s.steps; within = omega arith; progress = IsProgress-take_next g tokens k u rest s.steps inside (sym same) s.progress }
-    taken same (inr past) = let last : get_or tokens k end_mark ≡ end_mark = get_or_past tokens k end_mark past in absurd (omega arith)
+    taken : slice_get tokens k ≡ Some u → State g tokens (k + 1) rest
+    taken is = record { steps = s.steps; within = let inside = slice_get_within tokens k u is in omega arith; progress = IsProgress-take_next g tokens k u rest s.steps is s.progress }
+
+    refused : (slice_get tokens k ≡ Some u → ⊥) → Refusal g tokens
+    refused other = (k, refused_at g tokens k (Token u ∷ rest) s.steps tables.well_formed s.within s.progress (stuck_token g u (slice_get tokens k) rest other))
 
 -- a rule was replaced with the symbols of an alternative, which lead lower
 record Expanded (g : Grammar) (table : MaskTable) (leads tokens : List ℕ) (k r : ℕ) (rest : List Sym) : Type 0 where
   pub chosen : List Sym
-  pub kinds : names_kinds chosen ≡ true
   pub lower : leads_lower table leads (get_or leads r 0) chosen ≡ true
   pub empty : empties (nullable_at table) chosen ≡ true → nullable_at table r ≡ true
   pub state : State g tokens k (chosen ++ rest)
@@ -76,41 +89,39 @@ record Expanded (g : Grammar) (table : MaskTable) (leads tokens : List ℕ) (k r
 expand_or_refuse : (g : Grammar) (table : MaskTable) (leads tokens : List ℕ) (k r : ℕ) (rest : List Sym) → Tables g table leads →
     State g tokens k (Rule r ∷ rest) → Expanded g table leads tokens k r rest ⊎ Refusal g tokens
 expand_or_refuse g table leads tokens k r rest tables s =
-    elim (decide g table r (get_or tokens k end_mark) tables.closed tables.apart) [
+    elim (decide g table r (slice_get tokens k) tables.closed tables.apart) [
       | inl d ↦ let l = leads_at g table leads r d.a d.chosen tables.descends d.is in
           inl (record {
             chosen = d.chosen;
-            kinds = l.kinds;
             lower = l.lower;
             empty = empty_by_masks g table r d.a d.chosen tables.closed d.is;
             state = record {
               steps = s.steps ++ step r d.a ∷ [];
               within = s.within;
-              progress = IsProgress-expand g (take k tokens) (get_or tokens k end_mark) r d.a d.chosen rest s.steps tables.well_formed s.progress d.is d.only;
+              progress = IsProgress-expand g (take k tokens) (slice_get tokens k) r d.a d.chosen rest s.steps tables.well_formed s.progress d.is d.only;
             };
           })
       | inr none ↦ inr (
         k,
         refused_at g tokens k (Rule r ∷ rest) s.steps tables.well_formed s.within s.progress
-            (stuck_rule g (take k tokens) (get_or tokens k end_mark) r rest s.steps s.progress none),
+            (stuck_rule g (take k tokens) (slice_get tokens k) r rest s.steps s.progress none),
       )
     ]
 
 -- once a token was taken, symbols are passed where each rule is
 pass_later : (g : Grammar) (table : MaskTable) (leads tokens : List ℕ) (k : ℕ) (empty : Bool) (rest : List Sym) → Tables g table leads →
     ((j r : ℕ) → k < j → PassesRule g table tokens j r) →
-    (symbols : List Sym) → names_kinds symbols ≡ true → (j : ℕ) → k < j → State g tokens j (symbols ++ rest) → Passing g tokens k empty rest
-pass_later g table leads tokens k empty rest tables later [] kinds j more s =
+    (symbols : List Sym) → (j : ℕ) → k < j → State g tokens j (symbols ++ rest) → Passing g tokens k empty rest
+pass_later g table leads tokens k empty rest tables later [] j more s =
     inl (record { taken = j; more = omega arith; none_taken = λ (e : j ≡ k). absurd (omega arith); state = s })
-pass_later g table leads tokens k empty rest tables later (Token u ∷ symbols) kinds j more s =
-    let p = and_parts (ltb u end_mark) (names_kinds symbols) kinds in
-    elim (take_or_refuse g table leads tokens j u (symbols ++ rest) tables (ltb-true u end_mark p.0) s) [
-      | inl t ↦ pass_later g table leads tokens k empty rest tables later symbols p.1 (j + 1) (omega arith) t
+pass_later g table leads tokens k empty rest tables later (Token u ∷ symbols) j more s =
+    elim (take_or_refuse g table leads tokens j u (symbols ++ rest) tables s) [
+      | inl t ↦ pass_later g table leads tokens k empty rest tables later symbols (j + 1) (omega arith) t
       | inr refusal ↦ inr refusal
     ]
-pass_later g table leads tokens k empty rest tables later (Rule r ∷ symbols) kinds j more s =
+pass_later g table leads tokens k empty rest tables later (Rule r ∷ symbols) j more s =
     elim (later j r more (symbols ++ rest) s) [
-      | inl p ↦ pass_later g table leads tokens k empty rest tables later symbols kinds p.taken (let h : j ≤ p.taken = p.more in omega arith) p.state
+      | inl p ↦ pass_later g table leads tokens k empty rest tables later symbols p.taken (let h : j ≤ p.taken = p.more in omega arith) p.state
       | inr refusal ↦ inr refusal
     ]
 
@@ -122,25 +133,24 @@ cond_true false x e h = absurd (cc)
 -- symbols are passed where the rules that they lead with are, and after a token each rule
 pass_symbols : (g : Grammar) (table : MaskTable) (leads tokens : List ℕ) (k rank : ℕ) (rest : List Sym) → Tables g table leads →
     ((j r : ℕ) → k < j → PassesRule g table tokens j r) → ((r : ℕ) → get_or leads r 0 < rank → PassesRule g table tokens k r) →
-    (symbols : List Sym) → names_kinds symbols ≡ true → leads_lower table leads rank symbols ≡ true →
+    (symbols : List Sym) → leads_lower table leads rank symbols ≡ true →
     State g tokens k (symbols ++ rest) → Passing g tokens k (empties (nullable_at table) symbols) rest
-pass_symbols g table leads tokens k rank rest tables later below [] kinds lower s =
+pass_symbols g table leads tokens k rank rest tables later below [] lower s =
     inl (record { taken = k; more = omega arith; none_taken = λ (e : k ≡ k). refl; state = s })
-pass_symbols g table leads tokens k rank rest tables later below (Token u ∷ symbols) kinds lower s =
-    let p = and_parts (ltb u end_mark) (names_kinds symbols) kinds in
-    elim (take_or_refuse g table leads tokens k u (symbols ++ rest) tables (ltb-true u end_mark p.0) s) [
-      | inl t ↦ pass_later g table leads tokens k false rest tables later symbols p.1 (k + 1) (omega arith) t
+pass_symbols g table leads tokens k rank rest tables later below (Token u ∷ symbols) lower s =
+    elim (take_or_refuse g table leads tokens k u (symbols ++ rest) tables s) [
+      | inl t ↦ pass_later g table leads tokens k false rest tables later symbols (k + 1) (omega arith) t
       | inr refusal ↦ inr refusal
     ]
-pass_symbols g table leads tokens k rank rest tables later below (Rule r ∷ symbols) kinds lower s =
+pass_symbols g table leads tokens k rank rest tables later below (Rule r ∷ symbols) lower s =
     let p = and_parts (ltb (get_or leads r 0) rank) (cond (nullable_at table r) (leads_lower table leads rank symbols) true) lower in
     elim (below r (ltb-true (get_or leads r 0) rank p.0) (symbols ++ rest) s) [
       | inl q ↦ elim (cases_lt k q.taken) [
-        | inl more ↦ pass_later g table leads tokens k (nullable_at table r && empties (nullable_at table) symbols) rest tables later symbols kinds q.taken more q.state
+        | inl more ↦ pass_later g table leads tokens k (nullable_at table r && empties (nullable_at table) symbols) rest tables later symbols q.taken more q.state
         | inr same ↦
             let here : q.taken ≡ k = (let h : k ≤ q.taken = q.more in omega arith) in
             let empty = q.none_taken here in
-            past_empty r symbols empty (pass_symbols g table leads tokens k rank rest tables later below symbols kinds (cond_true (nullable_at table r) (leads_lower table leads rank symbols) p.1 empty) (subst (λ (j : ℕ). State g tokens j (symbols ++ rest)) here q.state))
+            past_empty r symbols empty (pass_symbols g table leads tokens k rank rest tables later below symbols (cond_true (nullable_at table r) (leads_lower table leads rank symbols) p.1 empty) (subst (λ (j : ℕ). State g tokens j (symbols ++ rest)) here q.state))
       ]
       | inr refusal ↦ inr refusal
     ]
@@ -158,7 +168,7 @@ pass_ranked g table leads tokens k tables later zero r low rest s = absurd (omeg
 pass_ranked g table leads tokens k tables later (suc n) r low rest s =
     elim (expand_or_refuse g table leads tokens k r rest tables s) [
       | inl x ↦ passed x (pass_symbols g table leads tokens k (get_or leads r 0) rest tables later
-          (λ q lower. pass_ranked g table leads tokens k tables later n q (omega arith)) x.chosen x.kinds x.lower x.state)
+          (λ q lower. pass_ranked g table leads tokens k tables later n q (omega arith)) x.chosen x.lower x.state)
       | inr refusal ↦ inr refusal
     ]
   where
@@ -203,30 +213,16 @@ only_tree g tokens tree derives only = (Ok tree, derives, one)
     one (Ok t) h = ap Ok (only t h)
     one (Err k) h = absurd (h.0 tree derives)
 
--- the end mark's number is no token that a sentence goes on after
-after_mark : (g : Grammar) (tokens : List ℕ) (k : ℕ) → IsWellFormed g → k < length tokens → get_or tokens k end_mark ≡ end_mark →
-    State g tokens k (Token end_mark ∷ []) → Refusal g tokens
-after_mark g tokens k well inside is s =
-    (k + 1, refused_at g tokens (k + 1) [] s.steps well (omega arith) (IsProgress-take_next g tokens k end_mark [] s.steps inside is s.progress) (stuck_end g (get_or tokens (k + 1) end_mark)))
-
--- where the end mark alone is left, each token is taken, or the next one is refused
-at_end : (g : Grammar) (tokens : List ℕ) (k : ℕ) → IsWellFormed g → State g tokens k (Token end_mark ∷ []) → Only g tokens
+-- where no symbol is left, the end is next, or the next token is refused
+at_end : (g : Grammar) (tokens : List ℕ) (k : ℕ) → IsWellFormed g → State g tokens k [] → Only g tokens
 at_end g tokens k well s =
-    elim (cases_eq (get_or tokens k end_mark) end_mark) [
-      | inl is ↦ marked is (cases_lt k (length tokens))
-      | inr other ↦ only_refused g tokens (
-        k,
-        refused_at g tokens k (Token end_mark ∷ []) s.steps well s.within s.progress
-            (stuck_token g end_mark (get_or tokens k end_mark) [] (λ e. other (sym e))),
-      )
+    elim (next_cases tokens k) [
+      | inl (t, is) ↦ only_refused g tokens (k, refused_at g tokens k [] s.steps well s.within s.progress (stuck_end g (slice_get tokens k) (λ (e : slice_get tokens k ≡ None). cc)))
+      | inr (past, none) ↦
+          let d = done g tokens s.steps (subst (λ (x : Next). IsProgress g tokens x [] s.steps) none
+          (subst (λ (l : List ℕ). IsProgress g l (slice_get tokens k) [] s.steps) (take_all k tokens past) s.progress)) in
+          only_tree g tokens s.steps d.0 d.1
     ]
-  where
-    marked : get_or tokens k end_mark ≡ end_mark → (k < length tokens) ⊎ (length tokens ≤ k) → Only g tokens
-    marked is (inl inside) = only_refused g tokens (after_mark g tokens k well inside is s)
-    marked is (inr past) =
-        let d = done g tokens s.steps (subst (λ (x : ℕ). IsProgress g tokens x (Token end_mark ∷ []) s.steps) is
-        (subst (λ (l : List ℕ). IsProgress g l (get_or tokens k end_mark) (Token end_mark ∷ []) s.steps) (take_all k tokens past) s.progress)) in
-        only_tree g tokens s.steps d.0 d.1
 
 -- so each list has one reading
 pub one_reading_by_tables : (g : Grammar) (table : MaskTable) (ranks leads : List ℕ) → are_closed g table ≡ true → decides g table ≡ true → are_ranked g ranks ≡ true →
@@ -234,8 +230,8 @@ pub one_reading_by_tables : (g : Grammar) (table : MaskTable) (ranks leads : Lis
 one_reading_by_tables g table ranks leads closed apart ranked descends tokens =
     let well = well_formed_by_ranks g ranks ranked in
     let tables : Tables g table leads = record { well_formed = well; closed = closed; apart = apart; descends = descends } in
-    let start : State g tokens 0 (Rule 0 ∷ Token end_mark ∷ []) = record { steps = []; within = omega arith; progress = IsProgress-start g (get_or tokens 0 end_mark) well.some_rule } in
-    elim (pass_rule g table leads tokens tables (length tokens + 1) 0 0 (omega arith) (Token end_mark ∷ []) start) [
+    let start : State g tokens 0 (Rule 0 ∷ []) = record { steps = []; within = omega arith; progress = IsProgress-start g (slice_get tokens 0) well.some_rule } in
+    elim (pass_rule g table leads tokens tables (length tokens + 1) 0 0 (omega arith) [] start) [
       | inl p ↦ at_end g tokens p.taken well p.state
       | inr refusal ↦ only_refused g tokens refusal
     ]

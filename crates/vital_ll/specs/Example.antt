@@ -12,7 +12,7 @@ example =
     ∷ ((Token 1 ∷ Token 0 ∷ []) ∷ [] ∷ [])
     ∷ []
 
--- bit 0 is the end mark's, bit 1 that of name, bit 2 that of "=", bit 3 that of ";"
+-- bit 0 is the end's, bit 1 that of name, bit 2 that of "=", bit 3 that of ";"
 abbrev pub example_masks : MaskTable
 example_masks = (true, 2, 1) ∷ (false, 2, 3) ∷ (true, 4, 8) ∷ []
 

@@ -7,12 +7,13 @@ use Rattle.vital_ll.specs.declared.expansion.Expansion.{Expansion}
 use Rattle.vital_ll.specs.declared.expansion.Expansions.{Expansions}
 use Rattle.vital_ll.specs.Listing.{step}
 use Rattle.vital_ll.specs.Grammar.{Grammar, alternative_of}
+use Rattle.vital_ll.specs.Sentence.{Next}
 use Rattle.vital_ll.specs.Masks.{bit_of}
 use Rattle.vital_ll.specs.Choice.{IsChoice}
 
 -- no token of this bit is in the choice set of another alternative of the rule
 abbrev pub IsDecided : Grammar → ℕ → ℕ → ℕ → Type 0
-IsDecided g bit r a = (b t : ℕ) → bit_of t ≡ bit → IsChoice g r b t → a ≡ b
+IsDecided g bit r a = (b : ℕ) (t : Next) → bit_of t ≡ bit → IsChoice g r b t → a ≡ b
 
 -- Symbols come to others by steps: each replaces the first symbol, a rule, by the one alternative that the token of this bit
 -- decides for.

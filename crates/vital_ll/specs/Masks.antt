@@ -1,10 +1,10 @@
 -- Tables of masks, by which a grammar is seen to be predictive.
-use Rattle.std.specs.Prelude.{ℕ, zero, suc, ◌+◌, ◌^◌, Bool, true, false, not, ◌&&◌, ◌||◌, ◌==◌, if◌then◌else◌, List, [], ◌∷◌, slice_index_or}
+use Rattle.std.specs.Prelude.{ℕ, zero, suc, ◌+◌, ◌^◌, Bool, true, false, not, ◌&&◌, ◌||◌, ◌==◌, if◌then◌else◌, List, [], ◌∷◌, Some, None, slice_index_or}
 use Rattle.std.specs.Int.Bits.{bit_and, bit_or}
 use Rattle.vital_ll.specs.declared.grammar.Sym.{Sym}
 use Rattle.vital_ll.specs.declared.grammar.Sym.TheVariants.{Token, Rule}
 use Rattle.vital_ll.specs.Grammar.{Grammar}
-use Rattle.vital_ll.specs.Sentence.{end_mark}
+use Rattle.vital_ll.specs.Sentence.{Next}
 use Rattle.vital_ll.specs.Marks.{empties}
 
 -- for each rule: whether it can be empty, a mask of the tokens that it can begin with, and one of those that can follow it
@@ -20,14 +20,15 @@ first_at table r = (slice_index_or table r (false, 0, 0)).1
 abbrev pub follow_at : MaskTable → ℕ → ℕ
 follow_at table r = (slice_index_or table r (false, 0, 0)).2
 
--- a token's bit in a mask: bit 0 is the end mark's, and bit t + 1 is that of token t
-abbrev pub bit_of : ℕ → ℕ
-bit_of t = if t == end_mark then 0 else t + 1
+-- a token's bit in a mask: bit 0 is the end's, and bit k + 1 is that of a token of kind k
+abbrev pub bit_of : Next → ℕ
+bit_of None = 0
+bit_of (Some k) = k + 1
 
 -- the token of a bit
-abbrev pub token_at : ℕ → ℕ
-token_at zero = end_mark
-token_at (suc t) = t
+abbrev pub token_at : ℕ → Next
+token_at zero = None
+token_at (suc k) = Some k
 
 -- each bit of the first mask is set in the second
 abbrev pub is_within : ℕ → ℕ → Bool
@@ -36,7 +37,7 @@ is_within a b = bit_or a b == b
 -- the tokens that the symbols can begin with, where those of `after` can come after them
 abbrev pub mask_of : MaskTable → ℕ → List Sym → ℕ
 mask_of table after [] = after
-mask_of table after (Token u ∷ rest) = 2 ^ bit_of u
+mask_of table after (Token u ∷ rest) = 2 ^ bit_of (Some u)
 mask_of table after (Rule r ∷ rest) = bit_or (first_at table r) (if nullable_at table r then mask_of table after rest else 0)
 
 -- what comes after each rule that the symbols name is in that rule's mask
@@ -57,7 +58,7 @@ abbrev pub are_closed_from : MaskTable → ℕ → Grammar → Bool
 are_closed_from table r [] = true
 are_closed_from table r (alternatives ∷ rules) = is_closed_rule table r alternatives && are_closed_from table (r + 1) rules
 
--- the masks are closed under the rules, and the end mark follows the first rule
+-- the masks are closed under the rules, and the end follows the first rule
 abbrev pub are_closed : Grammar → MaskTable → Bool
 are_closed g table = is_within 1 (follow_at table 0) && are_closed_from table 0 g
 

@@ -8,6 +8,7 @@ use Rattle.vital_ll.specs.declared.listing.Place.{Place}
 use Rattle.vital_ll.specs.Grammar.{Grammar, alternative_of}
 use Rattle.vital_ll.specs.Choice.{IsWellFormed}
 use Rattle.vital_ll.specs.Masks.{token_at}
+use Rattle.vital_ll.specs.Sentence.{Next}
 use Rattle.vital_ll.specs.Marks.{Marks, marked, empties, begins, EmptySound, FirstSound, ReachSound, FollowSound, EmptyClosed, FirstClosed, ReachClosed, FollowClosed}
 use Rattle.vital_ll.specs.Listing.{ListsSteps, ListsPlaces}
 
@@ -23,7 +24,7 @@ abbrev pub EmptyAt : Grammar → Marks → Step → Type 0
 EmptyAt g marks s =
     (chosen : List Sym) → alternative_of g s.rule s.alternative ≡ Some chosen → empties marks chosen ≡ true → marks s.rule ≡ true
 
-abbrev pub FirstAt : Grammar → Marks → ℕ → Marks → Step → Type 0
+abbrev pub FirstAt : Grammar → Marks → Next → Marks → Step → Type 0
 FirstAt g nullable t marks s =
     (chosen : List Sym) → alternative_of g s.rule s.alternative ≡ Some chosen → begins nullable marks t false chosen ≡ true → marks s.rule ≡ true
 
@@ -36,7 +37,7 @@ abbrev pub ReachAt : Grammar → Marks → Place → Type 0
 ReachAt g marks p =
     (r : ℕ) (after : List Sym) → IsNamedAt g p r after → marks p.step.rule ≡ true → marks r ≡ true
 
-abbrev pub FollowAt : Grammar → Marks → Marks → Marks → ℕ → Marks → Place → Type 0
+abbrev pub FollowAt : Grammar → Marks → Marks → Marks → Next → Marks → Place → Type 0
 FollowAt g nullable first reached t marks p =
     (r : ℕ) (after : List Sym) → IsNamedAt g p r after → reached p.step.rule ≡ true →
     begins nullable first t (marks p.step.rule) after ≡ true → marks r ≡ true
@@ -58,7 +59,7 @@ pub record AreNullable (g : Grammar) (marks : Marks) : Type 0 where
   pub closed : EmptyClosed g marks
 
 -- the marks of the rules that can begin with the token
-pub record AreFirst (g : Grammar) (nullable : Marks) (t : ℕ) (marks : Marks) : Type 0 where
+pub record AreFirst (g : Grammar) (nullable : Marks) (t : Next) (marks : Marks) : Type 0 where
   pub sound : FirstSound g marks t
   pub closed : FirstClosed g nullable marks t
 

@@ -1,6 +1,6 @@
-ghost use Rattle.std.specs.Prelude.{◌≡◌, ◌+◌, ◌==◌, length, All};
+ghost use Rattle.std.specs.Prelude.{◌≡◌, ◌+◌, length, All};
 ghost use Rattle.vital_ll.specs.Choice.{IsNamed};
-ghost use Rattle.vital_ll.specs.Marks.{has, marked, empties, begins};
+ghost use Rattle.vital_ll.specs.Marks.{has, marked, empties, begins, is_of_kind};
 ghost use Rattle.vital_ll.specs.Masks.{token_at};
 ghost use Rattle.vital_ll.specs.Passes.{EachBit};
 
@@ -23,7 +23,7 @@ pub(crate) fn can_be_empty(symbols: &[Sym], nullable: &[u128]) -> u128
 
 /// The bit of a token of this kind in a mask that begins at bit `base`, if it has one there.
 fn bit_of(kind: u16, base: usize) -> u128
-    ensures { EachBit (λ i. has result i ≡ (kind == token_at (base + i))) }
+    ensures { EachBit (λ i. has result i ≡ is_of_kind kind (token_at (base + i))) }
 {
     let bit = usize::from(kind) + 1;
     if base <= bit && bit - base < 128 {

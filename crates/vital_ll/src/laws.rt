@@ -3,6 +3,7 @@ ghost use Rattle.std.specs.Int.{bit_at};
 ghost use Rattle.vital_ll.specs.declared.derivation.Step.{Step};
 ghost use Rattle.vital_ll.specs.declared.grammar.Sym.{Sym};
 ghost use Rattle.vital_ll.specs.Grammar.{Grammar, alternative_of};
+ghost use Rattle.vital_ll.specs.Sentence.{Next};
 ghost use Rattle.vital_ll.specs.Choice.{IsChoice, IsPredictive, IsWellFormed};
 ghost use Rattle.vital_ll.specs.Masks.{MaskTable, are_closed, decides, choice_mask, bit_of};
 ghost use Rattle.vital_ll.specs.Ranks.{are_ranked};
@@ -11,7 +12,7 @@ ghost use Rattle.vital_ll.specs.Readings.{IsReading};
 
 /// Masks that are closed under the rules of a grammar hold every choice set: a law, called for its clause.
 pub fn masks_hold()
-    ensures { (g : Grammar) (table : MaskTable) (r a t : ℕ) (chosen : List Sym)
+    ensures { (g : Grammar) (table : MaskTable) (r a : ℕ) (t : Next) (chosen : List Sym)
         → IsTrue (are_closed g table) → alternative_of g r a ≡ Some chosen → IsChoice g r a t
         → bit_at (choice_mask table r chosen) (bit_of t) ≡ 1 }
 {}
@@ -31,8 +32,7 @@ pub fn ranks_derive()
 
 /// Each list of tokens has one reading: its one tree or, where it has none, the one token that it is refused at. So
 /// the tokens alone say what `parse` answers, but for want of memory. What shows it is closed masks that do not meet,
-/// ranks, and lead ranks, whose test also says that each token that a rule names is a kind of token: a law, called for
-/// its clause. A token of the list is any number, also that of the end mark, which no sentence has before its end.
+/// ranks, and lead ranks: a law, called for its clause.
 pub fn one_reading()
     ensures { (g : Grammar) (table : MaskTable) (ranks leads : List ℕ)
         → IsTrue (are_closed g table) → IsTrue (decides g table) → IsTrue (are_ranked g ranks)

@@ -1,6 +1,7 @@
 ghost use Rattle.std.specs.Prelude.{◌≡◌, ℕ, ◌<◌, ◌*◌, length, IfOk, IfErr, OnOk};
 ghost use Rattle.vital_ll.specs.declared.prediction.RulesError.TheVariants.{NoMemory};
 ghost use Rattle.vital_ll.specs.Masks.{bit_of};
+ghost use Rattle.vital_ll.specs.Sentence.{Next};
 ghost use Rattle.vital_ll.specs.Choice.{IsChoice, IsPredictive, IsWellFormed};
 ghost use Rattle.vital_ll.specs.Conflict.{IsConflict};
 ghost use Rattle.vital_ll.specs.Passes.{AreBlocks};
@@ -47,7 +48,7 @@ impl Analysis<'_> {
     fn all_rows(&self, alloc: Global, blocks: &[Block]) -> Result<Vec<Rows>, RulesError>
         requires well_formed { IsWellFormed self.now.rules.now }
         requires blocks { AreBlocks self.now.rules.now self.now.nullable.now blocks.now }
-        requires within { (r a t : ℕ) → IsChoice self.now.rules.now r a t → bit_of t < 128 * length blocks.now }
+        requires within { (r a : ℕ) (t : Next) → IsChoice self.now.rules.now r a t → bit_of t < 128 * length blocks.now }
         ensures rows { IfOk result (λ rows. HasRows self.now.rules.now (128 * length blocks.now) rows.items) }
         ensures predictive { OnOk result (IsPredictive self.now.rules.now) }
         ensures conflict { IfErr result (IsConflict self.now.rules.now) }
@@ -60,7 +61,7 @@ impl Analysis<'_> {
     }
 }
 
-/// A predictive grammar with its table: for each rule and each next token, the end mark among them, what the rule comes to
+/// A predictive grammar with its table: for each rule and each next token, the end among them, what the rule comes to
 /// by the alternatives that the token begins or follows. Contracts see the grammar.
 #[derive(Debug, Drop)]
 pub struct Rules {
@@ -102,7 +103,7 @@ impl Rules {
             nullable: &nullable,
             reached: &reached,
         };
-        // Bit 0 is the end mark's, so there is one bit more than kinds.
+        // Bit 0 is the end's, so there is one bit more than kinds.
         let count = width_of(&grammar, &steps) / 128 + 1;
         let blocks = analysis.blocks(alloc, count)?;
         let rows = analysis.all_rows(alloc, &blocks)?;

@@ -1,8 +1,7 @@
-ghost use Rattle.std.specs.Prelude.{◌≡◌, ℕ, ◌^◌, ◌<◌, ◌++◌, List, length, IfOk, OnOk, IfErr, IsTrue, IsSome, Some, ◌↔◌, unwrap_or, slice_index_or};
-ghost use Rattle.std.specs.Option.{ForSome};
+ghost use Rattle.std.specs.Prelude.{◌≡◌, ℕ, ◌^◌, ◌<◌, ◌++◌, List, length, IfOk, OnOk, IfErr, IsTrue, Some, ◌↔◌, slice_get};
 ghost use Rattle.vital_ll.specs.declared.derivation.Step.{Step};
 ghost use Rattle.vital_ll.specs.declared.reading.ParseError.TheVariants.{NoMemory};
-ghost use Rattle.vital_ll.specs.Sentence.{IsTreeOf, end_mark};
+ghost use Rattle.vital_ll.specs.Sentence.{IsTreeOf};
 ghost use Rattle.vital_ll.specs.Refusal.{IsRefusal};
 
 use crate::derivation::{Step, Tree};
@@ -14,8 +13,8 @@ use std::alloc::{AllocError, AllocFailed, Global};
 /// Why a list of tokens was not read.
 #[derive(Clone, Copy, Debug, PartialEq, Eq)]
 pub enum ParseError {
-    /// Tokens 0 to `token` begin no sentence, and `token` is the least such number; the end mark counts
-    /// as the last token.
+    /// Tokens 0 to `token` begin no sentence, and `token` is the least such number; the end counts as the
+    /// last token.
     Refused { token: u32 },
     /// There was no memory for the derivation.
     NoMemory,
@@ -39,9 +38,7 @@ impl<T: Drop> From<AllocFailed<T>> for ParseError {
 
 /// The token of this number, or none after the last.
 fn token_at(kinds: &[u16], index: usize) -> Option<u16>
-    ensures token { unwrap_or result end_mark ≡ slice_index_or kinds.now index end_mark }
-    ensures within { IsSome result ↔ (index < length kinds.now) }
-    ensures kind { ForSome result (λ k. k < end_mark) }
+    ensures { result ≡ slice_get kinds.now index }
 {
     if index < kinds.len() {
         Some(kinds[index])

@@ -69,7 +69,7 @@ pub(crate) fn reached_masks(
     Ok(saturated(&pass, first))
 }
 
-/// The tokens that follow each rule in some sentence. The end mark, whose bit is 0, follows the first rule.
+/// The tokens that follow each rule in some sentence. The end, whose bit is 0, follows the first rule.
 pub(crate) fn follow_masks(alloc: Global, pass: &FollowPass) -> Result<Vec<u128>, AllocError>
     requires steps { ListsSteps pass.now.rules.now pass.now.steps.now }
     requires valid { FollowsFrom pass.now.rules.now pass.now.steps.now pass.now.places.now pass.now.base pass.now.nullable.now pass.now.first.now pass.now.reached.now }

@@ -1,8 +1,6 @@
-ghost use Rattle.std.specs.Prelude.{◌≡◌, ℕ, ◌<◌, length, replicate, None, unwrap_or, IfOk};
-ghost use Rattle.std.specs.Option.{ForSome};
+ghost use Rattle.std.specs.Prelude.{◌≡◌, ℕ, ◌<◌, length, replicate, None, IfOk};
 ghost use Rattle.vital_ll.specs.Choice.{IsWellFormed};
 ghost use Rattle.vital_ll.specs.Expansion.{AreLonger};
-ghost use Rattle.vital_ll.specs.Sentence.{end_mark};
 ghost use Rattle.vital_ll.specs.Table.{HasRows, IsColumn, IsColumnFrom, IsTable};
 
 use crate::derivation::Step;
@@ -97,8 +95,7 @@ impl Table {
     /// The column of this token, or some column where no sentence has it.
     pub(crate) fn column(&self, next: Option<u16>) -> &[Option<Expansion>]
         requires some { 0 < length self.now.columns.items }
-        requires kind { ForSome next (λ k. k < end_mark) }
-        ensures { IsColumn self.now.columns.items (unwrap_or next end_mark) result.now }
+        ensures { IsColumn self.now.columns.items next result.now }
     {
         let bit = match next {
             None => 0,
