@@ -8,12 +8,13 @@ use Rattle.vital_lex.specs.declared.token_list.Token.{Token}
 use Rattle.vital_nodes.specs.Nodes.{Node, parts_of, parts_of_unit}
 use Rattle.vital_nodes.specs.Places.{place_of}
 use Rattle.vital_nodes.specs.Walk.{nodes_of, nodes_of_all, nodes_of_unit}
+use Rattle.vital_nodes.specs.declared.identifier.Identifier.{Identifier}
 use Rattle.vital_nodes.specs.declared.unit.Unit.{Unit as Unit'}
 use Rattle.vital_shapes.specs.Reading.{first_token}
 use Rattle.vital_shapes.specs.Standing.{IsAtToken, IsNotAfter, StartsRise, StandAtTokens, PlacesRise, nodes_of_units, places_of_units}
 use Rattle.vital_shapes.proofs.Along.{Source, Stands, Along, stay, past, stand, flat-append}
 use Rattle.vital_shapes.proofs.InOrder.{places_in_order}
-use Rattle.vital_shapes.proofs.UnitsAlong.{UnitsAlong, no_unit, next_unit}
+use Rattle.vital_shapes.proofs.UnitsAlong.{HeadAlong, head_ends, next_identifier, UnitsAlong, no_unit, next_unit}
 
 -- what stands at places by itself along the tokens
 data Marks (o : Source) {A : Type 0} (at : A → Place) : List Token → List A → List Token → Type 0 where
@@ -89,16 +90,19 @@ nodes_stand {o} {ts} {us} units walked a =
     let marks = subst (λ (l : List Node). Marks o place_of ts l us) (units_are units) (marks_of walked a) in
     (marks_at_tokens marks, λ rises. marks_rise marks rises)
 
--- and so do the units, what they declare, and their nodes
+-- and so do the units, the identifiers in their heads, and their nodes
 over_tokens : {o : Source} {ts us : List Token} → Along o ts [] us → Marks o (λ p. p) ts [] us
 over_tokens stay = none
 over_tokens (past a) = over (over_tokens a)
 
+marks_of_head : {o : Source} {ts us : List Token} {xs : List Identifier} → HeadAlong o ts xs us → Marks o (λ p. p) ts (map (λ identifier. identifier.place) xs) us
+marks_of_head (head_ends a) = over_tokens a
+marks_of_head (next_identifier a here r) = marks_joined (over_tokens a) (mark here (marks_of_head r))
+
 marks_of_units : {o : Source} {ts us : List Token} {units : List Unit'} → Walked → UnitsAlong o ts units us → Marks o (λ p. p) ts (places_of_units units) us
 marks_of_units walked (no_unit a) = over_tokens a
 marks_of_units walked (next_unit a x r) =
-    marks_joined (over_tokens a) (mark x.stands (marks_joined (over_tokens x.up_to_name) (mark x.name_stands
-    (marks_joined (marked_places (marks_of walked x.inside)) (marks_of_units walked r)))))
+    marks_joined (over_tokens a) (mark x.stands (marks_joined (marks_joined (marks_of_head x.head) (marked_places (marks_of walked x.inside))) (marks_of_units walked r)))
 
 pub units_stand : {o : Source} {ts us : List Token} (units : List Unit') → Walked → UnitsAlong o ts units us →
     All (IsAtToken o.file o.text ts) (places_of_units units) × (StartsRise ts → AllPairs IsNotAfter (places_of_units units))

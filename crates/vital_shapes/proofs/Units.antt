@@ -18,7 +18,7 @@ use Rattle.vital_shapes.proofs.Lists.{lists, several}
 use Rattle.vital_shapes.proofs.Outermost.{names_take}
 use Rattle.vital_shapes.proofs.Rules as rules
 use Rattle.vital_shapes.proofs.Steps.{◌&◌, choose, step, placed, skipped, token_first}
-use Rattle.vital_shapes.proofs.UnitsAlong.{UnitAlong, UnitsAlong, no_unit, units_joined, one_unit}
+use Rattle.vital_shapes.proofs.UnitsAlong.{head_ends, next_identifier, UnitAlong, UnitsAlong, no_unit, units_joined, one_unit}
 use Rattle.vital_shapes.proofs.Takes.{Takes, followed, passed, gives, claiming}
 
 pub entity_statements_take : {o : Source} {n : ℕ} {ts : List Token} → Takes o n (s.entity_statements ∷ []) ts entity_statements (λ found us. Along o ts (nodes.concurrents found) us)
@@ -39,20 +39,21 @@ entity_takes = step 4 rules.entity_is (placed refl (λ p here. token_first (λ q
     followed (interfaces_take 7 rules.generics_is) (λ generics ds f. followed (interfaces_take 8 rules.ports_is) (λ ports fs g.
     followed declarations_take (λ declared gs h. followed entity_statements_take (λ found hs k. passed (ending_takes 6 rules.entity_word_is) (λ _ ks l.
     gives (u.Entity (record { place = p; identifier = id; generics = generics; ports = ports; declarations = declared; statements = found }))
-    (record { stands = here; named = qs; up_to_name = a; name_stands = b.stands; inside = led b.inside (led c (joined (joined (joined f g) h) (ended k l))) })))))))))))
+    (record { stands = here; behind = bs; head = next_identifier a b.stands (head_ends b.inside); inside = led c (joined (joined (joined f g) h) (ended k l)) })))))))))))
 
 pub arch_takes : {o : Source} {n : ℕ} {ts : List Token} → Takes o n (s.arch ∷ []) ts arch (UnitAlong o ts)
 unfolding arch nodes.parts_of_unit
 arch_takes = step 18 rules.arch_is (placed refl (λ p here. token_first (λ qs a. followed identifier_takes (λ id bs b. token_first (λ cs c. followed identifier_takes (λ of_what ds f.
     token_first (λ fs g. followed declarations_take (λ declared gs h. token_first (λ hs k. followed concs_take (λ found ks l. passed (ending_takes 19 rules.arch_word_is) (λ _ ls m.
     gives (u.Arch (record { place = p; identifier = id; entity = of_what; declarations = declared; statements = found }))
-    (record { stands = here; named = qs; up_to_name = a; name_stands = b.stands; inside = led b.inside (led c (led f.inside (led g (joined h (led k (ended l m)))))) }))))))))))))
+    (record { stands = here; behind = ds; head = next_identifier a b.stands (next_identifier (led b.inside c) f.stands (head_ends f.inside)); inside = led g (joined h (led k (ended l m))) }))))))))))))
 
 pub pack_takes : {o : Source} {n : ℕ} {ts : List Token} → Takes o n (s.pack ∷ []) ts pack (UnitAlong o ts)
 unfolding pack nodes.parts_of_unit
 pack_takes = step 20 rules.pack_is (placed refl (λ p here. token_first (λ qs a. followed identifier_takes (λ id bs b. token_first (λ cs c. followed declarations_take (λ declared ds f.
     passed (ending_takes 21 rules.pack_word_is) (λ _ fs g.
-    gives (u.Pack (record { place = p; identifier = id; declarations = declared })) (record { stands = here; named = qs; up_to_name = a; name_stands = b.stands; inside = led b.inside (led c (ended f g)) }))))))))
+    gives (u.Pack (record { place = p; identifier = id; declarations = declared }))
+    (record { stands = here; behind = bs; head = next_identifier a b.stands (head_ends b.inside); inside = led c (ended f g) }))))))))
 
 pub config_takes : {o : Source} {n : ℕ} {ts : List Token} → Takes o n (s.config ∷ []) ts config (UnitAlong o ts)
 unfolding config nodes.parts_of_unit
@@ -60,7 +61,12 @@ config_takes = step 22 rules.config_is (placed refl (λ p here. token_first (λ 
     token_first (λ fs g. token_first (λ gs h. followed identifier_takes (λ for_what hs k. token_first (λ ks l. token_first (λ ls m. token_first (λ ms q.
     passed (ending_takes 23 rules.config_word_is) (λ _ ns r.
     gives (u.Config (record { place = p; identifier = id; entity = of_what; arch = for_what }))
-    (record { stands = here; named = qs; up_to_name = a; name_stands = b.stands; inside = led b.inside (led c (led f.inside (led g (led h (led k.inside (led l (led m (led q r)))))))) }))))))))))))))
+    (record {
+      stands = here;
+      behind = hs;
+      head = next_identifier a b.stands (next_identifier (led b.inside c) f.stands (next_identifier (led f.inside (led g h)) k.stands (head_ends k.inside)));
+      inside = led l (led m (led q r));
+    }))))))))))))))
 
 library_clause_takes : {o : Source} {n : ℕ} {ts : List Token} → Takes o n (s.word kind.Library ∷ s.id ∷ s.more_ids ∷ s.word kind.Semicolon ∷ []) ts library_clause
     (UnitsAlong o ts)

@@ -39,8 +39,8 @@ pub fn file_is_read()
 {}
 
 /// By the tree of a file's tokens each node of the units stands at a token of the file; and where no token starts after a later one,
-/// as in a lexed text, no node stands after a later one in preorder, unit after unit. The same of where the units begin, what they
-/// declare, and their nodes together: a law, called for its clauses.
+/// as in a lexed text, no node stands after a later one in preorder, unit after unit. The same of where the units begin, the
+/// identifiers in their heads, and their nodes together: a law, called for its clauses.
 pub fn nodes_stand()
     ensures at_tokens { (file : ℕ) (text : List ℕ) (tokens : List Token) (tree : List Step) (units : List Unit')
         → IsTreeOf grammar (kinds_of tokens) tree

@@ -22,8 +22,9 @@ pub fn one_reading()
     file_is_read();
 }
 
-/// What `read_units` reads of a file stands in that file, and in the order of the text: of each unit where it begins, what it
-/// declares, and its nodes in preorder. None of these places comes before an earlier one: a law, called for its clauses.
+/// What `read_units` reads of a file stands in that file, and in the order of the text: of each unit where it begins, the
+/// identifiers in its head, and its nodes in preorder. None of these places comes before an earlier one: a law, called for its
+/// clauses.
 pub fn units_stand()
     ensures in_file { (file : ℕ) (role : Role) (text : List ℕ) (room : ℕ) (read : Units)
         → IsUnitsOf file role text room read → All (λ p. p.file ≡ file) (places_of_units read.units) }
