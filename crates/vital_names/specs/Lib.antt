@@ -1,0 +1,6 @@
+pub mod FirstNames
+pub mod Words
+pub mod Declarations
+pub mod Sites
+pub mod Meanings
+pub mod Kept

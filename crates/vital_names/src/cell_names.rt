@@ -1,0 +1,162 @@
+//! The names of a cell.
+
+ghost use Rattle.std.specs.Prelude.{◌≡◌, map, IfOk};
+ghost use Rattle.std.specs.Option.{option_and_then, option_copied, option_map};
+ghost use Rattle.vital_names.specs.Declarations as declarations;
+ghost use Rattle.vital_names.specs.Meanings.{declared, declared_in_arch, declared_in_entity, declared_in_process, if_before, lent, meaning};
+ghost use Rattle.vital_names.specs.Sites as sites;
+ghost use Rattle.vital_names.specs.Words.{predeclared};
+
+use crate::declared::Declared;
+use crate::declared_lists::{body_of, interface_of};
+use crate::first_names::{FirstNames, first_names};
+use crate::library_names::LibraryNames;
+use crate::meaning::Meaning;
+use crate::predeclared::Predeclared;
+use crate::site::{CellUnit, Site};
+use std::alloc::{AllocError, Global};
+use std::marker::Model;
+use vital_base::Place;
+use vital_nodes::{Arch, Entity};
+
+/// What a cell declares outside of its processes, which is found by its names. It is made once for a cell. Contracts see it as the
+/// cell.
+#[derive(Drop)]
+pub struct CellNames<'a> {
+    library: &'a LibraryNames<'a>,
+    entity: &'a Entity,
+    arch: Option<&'a Arch>,
+    /// The first generic or port of each name.
+    interface: FirstNames<'a>,
+    /// The first declaration of each name in the architecture.
+    body: FirstNames<'a>,
+}
+
+impl<'a> Model for CellNames<'a> {
+    ghost use Rattle.std.specs.Option.{option_copied};
+    ghost use Rattle.vital_names.specs.Declarations.{body_of, interface_of};
+    ghost use Rattle.vital_names.specs.Kept.{HasFirst};
+    ghost use Rattle.vital_names.specs.Sites.{Cell};
+    ghost use Rattle.std.specs.Coded.{codes};
+    ghost use Rattle.vital_nodes.specs.contracts.unit.Arch as of_arch;
+    ghost use Rattle.vital_nodes.specs.contracts.unit.Entity as of_entity;
+    ghost use Rattle.vital_nodes.specs.contracts.unit.Units as of_units;
+
+    ghost Value = { Cell };
+
+    ghost coded = { Prim.hlevel (codes, of_units.the_row.coded, of_entity.the_row.coded, of_arch.the_row.coded) };
+
+    ghost view = { λ names. record { files = names.library.now; entity = names.entity.now; arch = option_copied names.arch } };
+
+    ghost invariant = { λ names. HasFirst names.interface (interface_of names.entity.now) × HasFirst names.body (body_of (option_copied names.arch)) };
+}
+
+/// A declaration, if it stands before a viewpoint.
+fn if_before<'a>(viewpoint: Place, declared: Option<Declared<'a>>) -> Option<Declared<'a>>
+    ensures { option_map declarations.lent result ≡ option_and_then (if_before viewpoint) (option_map declarations.lent declared.entry) }
+{
+    match declared {
+        Some(declared) if declared.identifier().place < viewpoint => Some(declared),
+        _ => None,
+    }
+}
+
+impl<'a> CellNames<'a> {
+    /// The names of a cell: an entity of the library, and one of its architectures, if it has one. It takes time and memory in
+    /// proportion to their declarations.
+    pub fn new(
+        alloc: Global,
+        library: &'a LibraryNames<'a>,
+        entity: &'a Entity,
+        arch: Option<&'a Arch>,
+    ) -> Result<CellNames<'a>, AllocError>
+        ensures { IfOk result (λ names. names ≡ record { files = library.now; entity = entity.now; arch = option_copied arch.entry }) }
+    {
+        let declared = interface_of(alloc, entity)?;
+        let interface = first_names(alloc, &declared)?;
+        let declared = body_of(alloc, arch)?;
+        let body = first_names(alloc, &declared)?;
+        Ok(CellNames {
+            library,
+            entity,
+            arch,
+            interface,
+            body,
+        })
+    }
+
+    /// What a name means at a site of the cell. Names are as identifiers keep them, and are looked up in maps.
+    pub fn meaning(&self, name: &[u8], site: &Site<'a>) -> Option<Meaning<'a>>
+        ensures { option_map lent result ≡ meaning name.now self.now (sites.lent site.now) }
+    {
+        match self.declared(name, site) {
+            Some(declared) => Some(Meaning::Declared(declared)),
+            None => self.library.meaning(name),
+        }
+    }
+
+    /// What a declaration of the cell declares for a name at a site.
+    pub fn declared(&self, name: &[u8], site: &Site<'a>) -> Option<Declared<'a>>
+        ensures { option_map declarations.lent result ≡ declared name.now self.now (sites.lent site.now) }
+    {
+        if let Some(declared) = in_process(name, site) {
+            return Some(declared);
+        }
+        match self.in_arch(site.unit, site.viewpoint, name) {
+            Some(declared) => Some(declared),
+            None => self.in_entity(site.unit, site.viewpoint, name),
+        }
+    }
+
+    /// What a name is predeclared as.
+    pub(crate) fn predeclared(&self, name: &[u8]) -> Option<Predeclared>
+        ensures { result ≡ predeclared name.now }
+    {
+        self.library.predeclared(name)
+    }
+
+    /// The generics and then the ports.
+    pub(crate) fn interface(&self, alloc: Global) -> Result<Vec<Declared<'a>>, AllocError>
+        ensures { IfOk result (λ list. map declarations.lent list.items ≡ declarations.interface_of self.now.entity) }
+    {
+        interface_of(alloc, self.entity)
+    }
+
+    /// What the architecture declares, in order. It is nothing where there is no architecture.
+    pub(crate) fn body(&self, alloc: Global) -> Result<Vec<Declared<'a>>, AllocError>
+        ensures { IfOk result (λ list. map declarations.lent list.items ≡ declarations.body_of self.now.arch) }
+    {
+        body_of(alloc, self.arch)
+    }
+
+    /// What the architecture declares for a name.
+    fn in_arch(&self, unit: CellUnit, viewpoint: Place, name: &[u8]) -> Option<Declared<'a>>
+        ensures { option_map declarations.lent result ≡ declared_in_arch unit viewpoint name.now self.now }
+    {
+        match unit {
+            CellUnit::Entity => None,
+            CellUnit::Architecture => if_before(viewpoint, self.body.get(name).copied()),
+        }
+    }
+
+    /// The generic or port of a name.
+    fn in_entity(&self, unit: CellUnit, viewpoint: Place, name: &[u8]) -> Option<Declared<'a>>
+        ensures { option_map declarations.lent result ≡ declared_in_entity unit viewpoint name.now self.now }
+    {
+        let first = self.interface.get(name).copied();
+        match unit {
+            CellUnit::Entity => if_before(viewpoint, first),
+            CellUnit::Architecture => first,
+        }
+    }
+}
+
+/// What the process of a site declares for a name.
+fn in_process<'a>(name: &[u8], site: &Site<'a>) -> Option<Declared<'a>>
+    ensures { option_map declarations.lent result ≡ declared_in_process name.now (sites.lent site.now) }
+{
+    match site.process {
+        Some(process) => if_before(site.viewpoint, process.first(name)),
+        None => None,
+    }
+}

@@ -1,0 +1,26 @@
+//! The ground of Level 1 of VITAL (IEEE 1076.4): what the names in a cell mean.
+#![tactic(auto)]
+
+mod cell_names;
+mod declared;
+mod declared_lists;
+mod first_names;
+mod library_names;
+mod meaning;
+mod predeclared;
+mod process_names;
+mod site;
+#[cfg(test)]
+mod tests;
+mod words;
+
+pub use cell_names::CellNames;
+pub use declared::{Declared, declared_by};
+pub use library_names::LibraryNames;
+pub use meaning::{Meaning, PackageConstant};
+pub use predeclared::{
+    Check, Conversion, DelayType, Function, GlitchMode, Inputs, Predeclared, Primitive, Procedure,
+    Severity, TypeName, UnitOfTime,
+};
+pub use process_names::ProcessNames;
+pub use site::{CellUnit, Site};
