@@ -1,3 +1,4 @@
 pub mod Steps
 pub mod FirstLemmas
 pub mod ConstantLemmas
+pub mod ViewpointLemmas

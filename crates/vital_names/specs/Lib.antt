@@ -4,3 +4,4 @@ pub mod Declarations
 pub mod Sites
 pub mod Meanings
 pub mod Kept
+pub mod Viewpoints

@@ -12,6 +12,7 @@ mod process_names;
 mod site;
 #[cfg(test)]
 mod tests;
+mod viewpoint;
 mod words;
 
 pub use cell_names::CellNames;
@@ -24,3 +25,4 @@ pub use predeclared::{
 };
 pub use process_names::ProcessNames;
 pub use site::{CellUnit, Site};
+pub use viewpoint::{DeclaredTogether, viewpoints};
