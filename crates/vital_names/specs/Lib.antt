@@ -5,3 +5,4 @@ pub mod Sites
 pub mod Meanings
 pub mod Kept
 pub mod Viewpoints
+pub mod Redeclared

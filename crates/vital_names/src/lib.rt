@@ -9,6 +9,7 @@ mod library_names;
 mod meaning;
 mod predeclared;
 mod process_names;
+mod redeclared;
 mod site;
 #[cfg(test)]
 mod tests;
