@@ -1,0 +1,10 @@
+//! What timing is described by (IEEE 1076.4, package VITAL_Timing): delays and their types, and how glitches are treated.
+#![tactic(auto)]
+
+mod delay;
+mod glitch_mode;
+#[cfg(test)]
+mod tests;
+
+pub use delay::{Delay, DelayType};
+pub use glitch_mode::GlitchMode;
