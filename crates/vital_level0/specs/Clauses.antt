@@ -17,11 +17,11 @@ use Rattle.vital_nodes.specs.declared.decl.Mode.TheVariants.{In, Out, Inout, Buf
 use Rattle.vital_nodes.specs.declared.decl.Specification.{Specification}
 use Rattle.vital_nodes.specs.declared.expr.Expr.{Expr}
 use Rattle.vital_nodes.specs.declared.unit.Entity.{Entity}
+use Rattle.vital_timing.specs.declared.delay.DelayType.{DelayType}
+use Rattle.vital_timing.specs.declared.delay.DelayType.TheVariants.{One, Two, Six}
 use Rattle.vital_walk.specs.Names.{identifier_of}
 use Rattle.vital_level0.specs.declared.parts.Prefix.{Prefix}
 use Rattle.vital_level0.specs.declared.parts.Prefix.TheVariants.{Tpd, Tipd}
-use Rattle.vital_level0.specs.declared.type_name.DelayType.{DelayType}
-use Rattle.vital_level0.specs.declared.type_name.DelayType.TheVariants.{One, Two, Six}
 use Rattle.vital_level0.specs.Defaults.{is_delay, is_string}
 use Rattle.vital_level0.specs.Prefixes.{prefixes, underscore, word_of}
 use Rattle.vital_level0.specs.Split.{Splits, SplitsAs, holds_underscore}

@@ -6,8 +6,8 @@ use Rattle.vital_nodes.specs.declared.expr.Actual.TheOpen.{Choice-F, Expr-F, Ite
 use Rattle.vital_nodes.specs.declared.expr.Actual.TheViews.{out-Choice, out-Expr, out-Item}
 use Rattle.vital_nodes.specs.declared.expr.Expr.{Expr}
 use Rattle.vital_nodes.specs.declared.expr.Item.{Item as Item'}
-use Rattle.vital_level0.specs.declared.type_name.DelayType.{DelayType}
-use Rattle.vital_level0.specs.declared.type_name.DelayType.TheVariants.{One, Two, Six}
+use Rattle.vital_timing.specs.declared.delay.DelayType.{DelayType}
+use Rattle.vital_timing.specs.declared.delay.DelayType.TheVariants.{One, Two, Six}
 use Rattle.vital_level0.specs.TypeNames.{is_among}
 
 abbrev pub is_string_in : ExprLayer → Bool

@@ -4,10 +4,10 @@ use Rattle.std.specs.List.{list_any}
 use Rattle.std.specs.Option.{option_map, option_map_or}
 use Rattle.std.specs.Str.{bytes_eq}
 use Rattle.vital_nodes.specs.declared.decl.Subtype.{Subtype}
+use Rattle.vital_timing.specs.declared.delay.DelayType.{DelayType}
+use Rattle.vital_timing.specs.declared.delay.DelayType.TheVariants.{One, Two, Six}
 use Rattle.vital_walk.specs.Bounds.{items_at_end, literal_bounds}
 use Rattle.vital_walk.specs.Names.{last_identifier}
-use Rattle.vital_level0.specs.declared.type_name.DelayType.{DelayType}
-use Rattle.vital_level0.specs.declared.type_name.DelayType.TheVariants.{One, Two, Six}
 
 -- One of the words is this name.
 abbrev pub is_among : List (List ℕ) → List ℕ → Bool

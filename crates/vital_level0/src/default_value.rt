@@ -5,8 +5,8 @@ ghost use Rattle.std.specs.List.{list_all};
 ghost use Rattle.vital_level0.specs.Defaults.{is_delay, is_others, is_string, is_time, is_time_item, is_times, time_units};
 ghost use Rattle.vital_level0.specs.TypeNames.{is_among};
 
-use crate::type_name::DelayType;
 use vital_nodes::{Choice, Expr, Item};
+use vital_timing::DelayType;
 
 /// Whether an expression is a string literal.
 pub fn is_string(value: &Expr) -> bool

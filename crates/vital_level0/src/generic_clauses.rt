@@ -6,8 +6,9 @@ ghost use Rattle.vital_level0.specs.TypeNames.{is_plain};
 
 use crate::default_value::{is_delay, is_string};
 use crate::parts::Prefix;
-use crate::type_name::{DelayType, delay_type, plain_type};
+use crate::type_name::{delay_type, plain_type};
 use vital_nodes::{Iface, Subtype};
+use vital_timing::DelayType;
 use vital_walk::identifier_of;
 
 /// Whether a name begins with the word of a prefix and an underscore.

@@ -6,18 +6,8 @@ ghost use Rattle.vital_level0.specs.TypeNames as spec;
 ghost use Rattle.vital_walk.specs.Bounds.{items_at_end};
 
 use vital_nodes::{Reference, Subtype, Suffix};
+use vital_timing::DelayType;
 use vital_walk::{last_identifier, literal_bounds};
-
-/// A type of delays (IEEE 1076.4, package VITAL_Timing).
-#[derive(Clone, Copy, Debug, PartialEq, Eq)]
-pub enum DelayType {
-    /// VitalDelayType: one time.
-    One,
-    /// VitalDelayType01: a time for each of two changes.
-    Two,
-    /// VitalDelayType01Z: a time for each of six changes.
-    Six,
-}
 
 /// The last identifier of a type's name.
 fn type_name(subtype: &Subtype) -> Option<&[u8]>
