@@ -4,13 +4,13 @@ use Rattle.std.specs.List.{find}
 use Rattle.std.specs.Option.{option_map}
 use Rattle.std.specs.Str.{bytes_eq}
 use Rattle.vital_nodes.specs.declared.expr.Logical.TheVariants as gate
+use Rattle.vital_timing.specs.declared.delay.DelayType.TheVariants as delay
+use Rattle.vital_timing.specs.declared.glitch_mode.GlitchMode.TheVariants as mode
 use Rattle.vital_names.specs.declared.predeclared.Predeclared.{Predeclared}
 use Rattle.vital_names.specs.declared.predeclared.Predeclared.TheVariants as word
 use Rattle.vital_names.specs.declared.predeclared.Check.TheVariants as check
 use Rattle.vital_names.specs.declared.predeclared.Conversion.TheVariants as conversion
-use Rattle.vital_names.specs.declared.predeclared.DelayType.TheVariants as delay
 use Rattle.vital_names.specs.declared.predeclared.Function.TheVariants as function
-use Rattle.vital_names.specs.declared.predeclared.GlitchMode.TheVariants as mode
 use Rattle.vital_names.specs.declared.predeclared.Inputs.TheVariants as inputs
 use Rattle.vital_names.specs.declared.predeclared.Primitive.TheVariants as primitive
 use Rattle.vital_names.specs.declared.predeclared.Procedure.TheVariants as procedure

@@ -21,8 +21,8 @@ pub use declared::{Declared, declared_by};
 pub use library_names::LibraryNames;
 pub use meaning::{Meaning, PackageConstant};
 pub use predeclared::{
-    Check, Conversion, DelayType, Function, GlitchMode, Inputs, Predeclared, Primitive, Procedure,
-    Severity, TypeName, UnitOfTime,
+    Check, Conversion, Function, Inputs, Predeclared, Primitive, Procedure, Severity, TypeName,
+    UnitOfTime,
 };
 pub use process_names::ProcessNames;
 pub use site::{CellUnit, Site};

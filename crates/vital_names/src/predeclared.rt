@@ -2,6 +2,7 @@
 //! VITAL_Timing and VITAL_Primitives (IEEE 1076.4).
 
 use vital_nodes::Logical;
+use vital_timing::{DelayType, GlitchMode};
 
 /// What a predeclared name means.
 #[derive(Clone, Copy, Debug, PartialEq, Eq)]
@@ -19,15 +20,6 @@ pub enum Predeclared {
     PeriodDataInit,
     Function(Function),
     Procedure(Procedure),
-}
-
-/// How a path delay treats a change before the pending one comes (IEEE 1076.4, VitalGlitchKindType).
-#[derive(Clone, Copy, Debug, PartialEq, Eq)]
-pub enum GlitchMode {
-    OnEvent,
-    OnDetect,
-    Inertial,
-    Transport,
 }
 
 /// How severe a message is (IEEE 1076-1993, 14.2).
@@ -72,17 +64,6 @@ pub enum TypeName {
     GlitchData,
     TimingData,
     PeriodData,
-}
-
-/// A type of delays (IEEE 1076.4, package VITAL_Timing).
-#[derive(Clone, Copy, Debug, PartialEq, Eq)]
-pub enum DelayType {
-    /// VitalDelayType: one time.
-    One,
-    /// VitalDelayType01: a time for each of two changes.
-    Two,
-    /// VitalDelayType01Z: a time for each of six changes.
-    Six,
 }
 
 /// A function that expressions may call.

@@ -1,12 +1,13 @@
 //! Each predeclared word has its meaning, and words beside them have none.
 
 use crate::predeclared::{
-    Check, Conversion, DelayType, Function, GlitchMode, Inputs, Predeclared, Primitive, Procedure,
-    Severity, TypeName, UnitOfTime,
+    Check, Conversion, Function, Inputs, Predeclared, Primitive, Procedure, Severity, TypeName,
+    UnitOfTime,
 };
 use crate::words::predeclared_meanings;
 use std::test::Fail;
 use vital_nodes::Logical;
+use vital_timing::{DelayType, GlitchMode};
 
 #[test]
 fn each_word_has_its_meaning(rt: HostRuntime) -> Result<(), Fail> {
