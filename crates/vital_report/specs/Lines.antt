@@ -1,5 +1,5 @@
 -- The lines of a run, of a check and of a refusal, as they are printed.
-use Rattle.std.specs.Prelude.{ℕ, ◌==◌, List, [], ◌∷◌, ◌++◌, codes, decimal, Option, Some, None, option_map, if◌then◌else◌}
+use Rattle.std.specs.Prelude.{ℕ, ◌==◌, Bool, true, false, List, [], ◌∷◌, ◌++◌, codes, decimal, Option, Some, None, option_map, if◌then◌else◌}
 use Rattle.std.specs.List.{flat_map}
 use Rattle.vital_base.specs.declared.breach.Clause.{Clause}
 use Rattle.vital_logic.specs.declared.level.Level.{Level}
@@ -58,6 +58,22 @@ said (RefusedSyntax at) = refused_syntax (spot at)
 said (RefusedLimit limit at) = refused_limit limit (spot at)
 said (RefusedLibrary why at) = refused_library why (spot at)
 said (RefusedStimulus why file line) = refused_stimulus why file.now line
+
+-- Is it the line of a cell?
+abbrev pub is_of_cell : Line → Bool
+is_of_cell (CellRead entity arch) = true
+is_of_cell (CellBroken entity arch clause at) = true
+is_of_cell line = false
+
+-- Is it the line of a refusal?
+abbrev pub is_refusal : Line → Bool
+is_refusal (RefusedUsage word why) = true
+is_refusal (RefusedLexical at why) = true
+is_refusal (RefusedSyntax at) = true
+is_refusal (RefusedLimit limit at) = true
+is_refusal (RefusedLibrary why at) = true
+is_refusal (RefusedStimulus why file line) = true
+is_refusal line = false
 
 -- Why the words of the command line are refused, in a word.
 abbrev pub usage_word : UsageWhy → List ℕ

@@ -2,15 +2,15 @@
 #![tactic(auto)]
 
 mod buffer;
-mod field;
 mod fields;
 mod line;
 mod long_line;
-mod parts;
 mod printer;
 mod reporter;
+mod said;
 #[cfg(test)]
 mod tests;
+mod value;
 
 pub use line::{LexicalWhy, LibraryWhy, Limit, Line, Position, StimulusWhy, UsageWhy};
 pub use printer::Printer;

@@ -1,19 +1,14 @@
-ghost use Rattle.std.specs.Prelude.{◌≡◌, ◌≤◌, ◌++◌, ◌⊎◌, [], true, false, IfOk, OnOk, OnErr, IsErr, map};
+ghost use Rattle.std.specs.Prelude.{◌≡◌, ◌≤◌, ◌++◌, ◌⊎◌, [], true, false, IfOk, OnOk, OnErr, IsErr};
 ghost use Rattle.vital_base.specs.Faults.{Rose};
-ghost use Rattle.vital_base.specs.Sinks.{appended, AppendsPrefix};
-ghost use Rattle.vital_report.specs.Fields.{field_bytes};
-ghost use Rattle.vital_report.specs.Lines.{said, bytes_of, line_of};
+ghost use Rattle.vital_base.specs.Sinks.{AppendsPrefix};
+ghost use Rattle.vital_report.specs.Lines.{said, bytes_of};
 ghost use Rattle.vital_report.specs.Reporters.{PassesOn};
 
-use crate::buffer::put_line;
-use crate::field::Field;
-use crate::fields::Fields;
 use crate::line::Line;
-use crate::long_line::write_line;
-use crate::parts::Parts;
+use crate::said::write;
 use std::alloc::{AllocError, Global};
 use std::marker::Model;
-use vital_base::{Sink, WriteFault, write_all};
+use vital_base::{Sink, WriteFault};
 
 /// Memory ran out.
 pub type NoMemory = AllocError;
@@ -108,58 +103,5 @@ impl Reporter {
         } else {
             Ok(())
         }
-    }
-}
-
-/// Writes the line.
-fn write<K: Sink>(buffer: &mut [u8], sink: &mut K, line: &Line<'_>) -> Result<(), WriteFault>
-    ensures keeps_may_stick { K.may_stick sink.old → K.may_stick sink.new }
-    ensures never_falls { K.faults sink.old ≤ K.faults sink.new }
-
-    ensures ok_leaves_count { OnOk result (K.faults sink.new ≡ K.faults sink.old) }
-    ensures ok_appends { OnOk result (K.told sink.new ≡ appended (K.told sink.old) (bytes_of (said line.now))) }
-
-    ensures fault_rose { OnErr result (Rose (K.faults sink.old) (K.faults sink.new)) }
-    ensures fault_appends_prefix { OnErr result (AppendsPrefix (K.told sink.old)
-        (bytes_of (said line.now)) (K.told sink.new)) }
-{
-    let Parts { start, fields } = Parts::of(line);
-    match fields {
-        Fields::One(only) => write_fields(buffer, sink, start, &[only]),
-        Fields::Two(first, second) => write_fields(buffer, sink, start, &[first, second]),
-        Fields::Three(first, second, third) => {
-            write_fields(buffer, sink, start, &[first, second, third])
-        }
-        Fields::Four(first, second, third, fourth) => {
-            write_fields(buffer, sink, start, &[first, second, third, fourth])
-        }
-        Fields::Seven(first, second, third, fourth, fifth, sixth, seventh) => {
-            let fields = [first, second, third, fourth, fifth, sixth, seventh];
-            write_fields(buffer, sink, start, &fields)
-        }
-    }
-}
-
-/// Writes the line that begins with this text and has these fields, by one write where the buffer has room for it.
-fn write_fields<K: Sink>(
-    buffer: &mut [u8],
-    sink: &mut K,
-    start: &[u8],
-    fields: &[Field<'_>],
-) -> Result<(), WriteFault>
-    ensures keeps_may_stick { K.may_stick sink.old → K.may_stick sink.new }
-    ensures never_falls { K.faults sink.old ≤ K.faults sink.new }
-
-    ensures ok_leaves_count { OnOk result (K.faults sink.new ≡ K.faults sink.old) }
-    ensures ok_appends { OnOk result (K.told sink.new
-        ≡ appended (K.told sink.old) (line_of start.now (map field_bytes fields.now))) }
-
-    ensures fault_rose { OnErr result (Rose (K.faults sink.old) (K.faults sink.new)) }
-    ensures fault_appends_prefix { OnErr result (AppendsPrefix (K.told sink.old)
-        (line_of start.now (map field_bytes fields.now)) (K.told sink.new)) }
-{
-    match put_line(buffer, start, fields) {
-        Some(at) => write_all(sink, &buffer[at..]),
-        None => write_line(sink, start, fields),
     }
 }

@@ -1,0 +1,210 @@
+//! What each line says: the text that it begins with, and its fields.
+
+ghost use Rattle.std.specs.Prelude.{◌≡◌, ◌≤◌, true, OnOk, OnErr, option_map};
+ghost use Rattle.vital_base.specs.Faults.{Rose};
+ghost use Rattle.vital_base.specs.Sinks.{appended, AppendsPrefix};
+ghost use Rattle.vital_report.specs.Lines.{said, is_of_cell, is_refusal, arch_word, level_word, bytes_of, line_of};
+
+use crate::buffer::put_line;
+use crate::fields::{Field, Fields};
+use crate::line::{Line, Position};
+use crate::long_line::write_line;
+use vital_base::{Clause, Name, Sink, WriteFault, write_all};
+
+/// Writes the line.
+pub(crate) fn write<K: Sink>(
+    buffer: &mut [u8],
+    sink: &mut K,
+    line: &Line<'_>,
+) -> Result<(), WriteFault>
+    ensures keeps_may_stick { K.may_stick sink.old → K.may_stick sink.new }
+    ensures never_falls { K.faults sink.old ≤ K.faults sink.new }
+
+    ensures ok_leaves_count { OnOk result (K.faults sink.new ≡ K.faults sink.old) }
+    ensures ok_appends { OnOk result (K.told sink.new ≡ appended (K.told sink.old) (bytes_of (said line.now))) }
+
+    ensures fault_rose { OnErr result (Rose (K.faults sink.old) (K.faults sink.new)) }
+    ensures fault_appends_prefix { OnErr result (AppendsPrefix (K.told sink.old)
+        (bytes_of (said line.now)) (K.told sink.new)) }
+{
+    match *line {
+        Line::Version => write_fields(buffer, sink, b"vital", &Field(1)),
+        Line::Init { name, value } => {
+            write_fields(buffer, sink, b"init", &(text(name), Field(value)))
+        }
+        Line::Event {
+            time,
+            delta,
+            name,
+            value,
+        } => {
+            let fields = (Field(time), (Field(delta), (text(name), Field(value))));
+            write_fields(buffer, sink, b"event", &fields)
+        }
+        Line::End { time } => write_fields(buffer, sink, b"end", &Field(time)),
+        Line::CellRead { .. } | Line::CellBroken { .. } => write_cell(buffer, sink, line),
+        _ => write_refusal(buffer, sink, line),
+    }
+}
+
+/// Writes the line of a cell.
+fn write_cell<K: Sink>(buffer: &mut [u8], sink: &mut K, line: &Line<'_>) -> Result<(), WriteFault>
+    requires { is_of_cell line.now ≡ true }
+    ensures keeps_may_stick { K.may_stick sink.old → K.may_stick sink.new }
+    ensures never_falls { K.faults sink.old ≤ K.faults sink.new }
+
+    ensures ok_leaves_count { OnOk result (K.faults sink.new ≡ K.faults sink.old) }
+    ensures ok_appends { OnOk result (K.told sink.new ≡ appended (K.told sink.old) (bytes_of (said line.now))) }
+
+    ensures fault_rose { OnErr result (Rose (K.faults sink.old) (K.faults sink.new)) }
+    ensures fault_appends_prefix { OnErr result (AppendsPrefix (K.told sink.old)
+        (bytes_of (said line.now)) (K.told sink.new)) }
+{
+    match *line {
+        Line::CellRead { entity, arch } => {
+            let fields = (text(entity), (arch_text(arch), fixed(b"read")));
+            write_fields(buffer, sink, b"cell", &fields)
+        }
+        Line::CellBroken {
+            entity,
+            arch,
+            clause,
+            at,
+        } => {
+            let broken = (level_text(clause), (Field(clause), at));
+            let fields = (text(entity), (arch_text(arch), broken));
+            write_fields(buffer, sink, b"cell", &fields)
+        }
+        _ => unreachable!(),
+    }
+}
+
+/// Writes the line of a refusal.
+fn write_refusal<K: Sink>(
+    buffer: &mut [u8],
+    sink: &mut K,
+    line: &Line<'_>,
+) -> Result<(), WriteFault>
+    requires { is_refusal line.now ≡ true }
+    ensures keeps_may_stick { K.may_stick sink.old → K.may_stick sink.new }
+    ensures never_falls { K.faults sink.old ≤ K.faults sink.new }
+
+    ensures ok_leaves_count { OnOk result (K.faults sink.new ≡ K.faults sink.old) }
+    ensures ok_appends { OnOk result (K.told sink.new ≡ appended (K.told sink.old) (bytes_of (said line.now))) }
+
+    ensures fault_rose { OnErr result (Rose (K.faults sink.old) (K.faults sink.new)) }
+    ensures fault_appends_prefix { OnErr result (AppendsPrefix (K.told sink.old)
+        (bytes_of (said line.now)) (K.told sink.new)) }
+{
+    match *line {
+        Line::RefusedUsage { word, why } => {
+            let fields = (Field(word), fixed(why.word()));
+            write_fields(buffer, sink, b"refused usage", &fields)
+        }
+        Line::RefusedLexical { at, why } => {
+            write_fields(buffer, sink, b"refused lexical", &(at, fixed(why.word())))
+        }
+        Line::RefusedSyntax { at } => write_fields(buffer, sink, b"refused syntax", &at),
+        Line::RefusedLimit { limit, at } => {
+            write_fields(buffer, sink, b"refused limit", &(fixed(limit.word()), at))
+        }
+        Line::RefusedLibrary { why, at } => {
+            write_fields(buffer, sink, b"refused library", &(fixed(why.word()), at))
+        }
+        Line::RefusedStimulus { why, file, line } => {
+            let fields = (fixed(why.word()), (text(file), number(line)));
+            write_fields(buffer, sink, b"refused stimulus", &fields)
+        }
+        _ => unreachable!(),
+    }
+}
+
+/// Writes the line that begins with this text and has these fields, by one write where the buffer has room for it.
+fn write_fields<K: Sink, F: Fields>(
+    buffer: &mut [u8],
+    sink: &mut K,
+    start: &[u8],
+    fields: &F,
+) -> Result<(), WriteFault>
+    ensures keeps_may_stick { K.may_stick sink.old → K.may_stick sink.new }
+    ensures never_falls { K.faults sink.old ≤ K.faults sink.new }
+
+    ensures ok_leaves_count { OnOk result (K.faults sink.new ≡ K.faults sink.old) }
+    ensures ok_appends { OnOk result (K.told sink.new
+        ≡ appended (K.told sink.old) (line_of start.now (F.listed fields.now))) }
+
+    ensures fault_rose { OnErr result (Rose (K.faults sink.old) (K.faults sink.new)) }
+    ensures fault_appends_prefix { OnErr result (AppendsPrefix (K.told sink.old)
+        (line_of start.now (F.listed fields.now)) (K.told sink.new)) }
+{
+    match put_line(buffer, start, fields) {
+        Some(at) => write_all(sink, &buffer[at..]),
+        None => write_line(sink, start, fields),
+    }
+}
+
+/// A place has three fields.
+impl<'a> Fields for Position<'a> {
+    ghost use Rattle.vital_report.specs.Lines.{spot, spot_fields};
+
+    ghost listed = { λ at. spot_fields (spot at) };
+
+    fn put(&self, buffer: &mut [u8], end: usize) -> Option<usize> {
+        place(*self).put(buffer, end)
+    }
+
+    fn write<K: Sink>(&self, sink: &mut K) -> Result<(), WriteFault> {
+        place(*self).write(sink)
+    }
+}
+
+/// The fields of a place: the name of its file, its line and its column.
+fn place<'a>(at: Position<'a>) -> (Field<&'a [u8]>, (Field<u64>, Field<u64>))
+    ensures file { result.0.0.now ≡ at.entry.file.now }
+    ensures line { result.1.0.0 ≡ at.entry.line }
+    ensures column { result.1.1.0 ≡ at.entry.column }
+{
+    (text(at.file), (number(at.line), number(at.column)))
+}
+
+/// The name of an architecture, or `-` for none.
+fn arch_text<'a>(arch: Option<&'a Name>) -> Field<&'a [u8]>
+    ensures { result.0.now ≡ arch_word (option_map (λ name. name.now) arch.entry) }
+{
+    match arch {
+        Some(name) => text(name),
+        None => fixed(b"-"),
+    }
+}
+
+/// The word for the level that a cell has where it breaks this clause.
+fn level_text<'a>(clause: Clause) -> Field<&'a [u8]>
+    ensures { result.0.now ≡ level_word clause }
+{
+    if clause.level == 0 {
+        fixed(b"none")
+    } else {
+        fixed(b"level0")
+    }
+}
+
+/// A word that is always the same.
+fn fixed<'a>(word: &'a [u8]) -> Field<&'a [u8]>
+    ensures { result.0.now ≡ word.now }
+{
+    Field(word)
+}
+
+/// A name.
+fn text<'a>(name: &'a Name) -> Field<&'a [u8]>
+    ensures { result.0.now ≡ name.now }
+{
+    Field(name.as_slice())
+}
+
+/// A line or a column.
+fn number(number: u32) -> Field<u64>
+    ensures { result.0 ≡ number }
+{
+    Field(u64::from(number))
+}
