@@ -56,7 +56,7 @@ one_refusal (library.Duplicate place) a b is also = is ∙ sym also
 one_refusal (library.NoEntity place) a b is also = is ∙ sym also
 one_refusal library.NoMemory a b is also = absurd is
 
-gives_error : (error : LibraryError) (outcome : Result (List Units) LibraryError) (refusal : Refusal) → IsLibraryRefusal error refusal → GivesLibrary (Err error) outcome → outcome ≡ Err error
+pub gives_error : (error : LibraryError) (outcome : Result (List Units) LibraryError) (refusal : Refusal) → IsLibraryRefusal error refusal → GivesLibrary (Err error) outcome → outcome ≡ Err error
 gives_error (library.TooManyUnits place) outcome refusal is gives = gives
 gives_error (library.Duplicate place) outcome refusal is gives = gives
 gives_error (library.NoEntity place) outcome refusal is gives = gives

@@ -18,3 +18,7 @@ pub mod Checked
 pub mod FilesRead
 pub mod Parts
 pub mod CyclesLeft
+pub mod Found
+pub mod PlacedUnits
+pub mod PlacedFaults
+pub mod PlacedBreaches

@@ -97,7 +97,7 @@ one_read_as reads kind.Lib number text room After after =
     )
 one_read_as reads kind.Stim number text room After after = after 0
 
-one_read : OneReading → (number room : ℕ) (sources : List Source) → IsOne (AreRead number room sources)
+pub one_read : OneReading → (number room : ℕ) (sources : List Source) → IsOne (AreRead number room sources)
 one_read reads number room [] = one_is (Ok [])
 one_read reads number room (source ∷ sources) =
     one_read_as reads source.kind number source.text room (λ used. AreRead (number + 1) (room - used) sources) (λ used. one_read reads (number + 1) (room - used) sources)

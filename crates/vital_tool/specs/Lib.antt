@@ -13,3 +13,4 @@ pub mod Stages
 pub mod Given
 pub mod Outcome
 pub mod Ports
+pub mod Placed

@@ -1,6 +1,6 @@
 //! The lines of the cells of a library.
 
-ghost use Rattle.std.specs.Prelude.{◌≡◌, ◌<◌, [], false, length, map};
+ghost use Rattle.std.specs.Prelude.{◌≡◌, ◌<◌, false, length, map, All};
 ghost use Rattle.std.specs.Option.{option_map};
 ghost use Rattle.vital_library.specs.Units.{archs_of_entity, entities};
 ghost use Rattle.vital_report.specs.Lines.{said};
@@ -9,6 +9,7 @@ ghost use Rattle.vital_tool.specs.Answer.{text_of};
 ghost use Rattle.vital_tool.specs.Cells.{IsCellsAnswer, arch_line, cell_line, cell_lines, entity_lines_at, finding_of};
 ghost use Rattle.vital_tool.specs.Findings.{shown};
 ghost use Rattle.vital_tool.specs.Outcome.{Stage};
+ghost use Rattle.vital_tool.specs.Placed.{ArePlaced, BreachIsPlaced};
 
 use crate::judging::{first_breaches, status_of};
 use crate::refusal::position_of;
@@ -17,6 +18,7 @@ use std::alloc::Global;
 use vital_base::{Breach, Clause, Name, Sink, WriteFault};
 use vital_level0::one_first_breach;
 use vital_library::Library;
+use vital_nodes::walked_in_preorder;
 use vital_report::{Line, Position, Printer};
 use vital_words::NamedFile;
 
@@ -34,15 +36,16 @@ pub fn check_cells<K: Sink>(
     library: &Library,
     printer: &mut Printer<'_, K>,
 ) -> Status
-    requires { printer.old.stopped ≡ false }
+    requires placed { ArePlaced (length files.now) library.now }
+    requires goes_on { printer.old.stopped ≡ false }
     ensures { Stage (IsCellsAnswer files.now library.now) result printer.old printer.new }
 {
     one_first_breach();
+    walked_in_preorder();
     let Ok(firsts) = first_breaches(alloc, library) else {
         return Status::NoMemory;
     };
-    let nameless = Name::new(Vec::new(alloc));
-    match print_cells(files, library, &firsts, &nameless, printer) {
+    match print_cells(files, library, &firsts, printer) {
         Ok(()) => status_of(&firsts),
         Err(WriteFault) => Status::WriteFault,
     }
@@ -53,34 +56,29 @@ fn print_cells<'a, K: Sink>(
     files: &'a [NamedFile],
     library: &'a Library,
     firsts: &[Option<Breach>],
-    nameless: &'a Name,
     printer: &mut Printer<'_, K>,
 ) -> Result<(), WriteFault>
     requires one_each { length firsts.now ≡ length (entities library.now) }
-    requires nameless { nameless.now ≡ [] }
+    requires placed { All (BreachIsPlaced (length files.now)) firsts.now }
     requires goes_on { printer.old.stopped ≡ false }
     ensures { Prints result (text_of (cell_lines files.now library.now firsts.now)) printer.old printer.new }
 {
     for entity in 0..library.entity_count() {
-        let finding = finding_of(files, firsts[entity as usize], nameless);
+        let finding = finding_of(files, firsts[entity as usize]);
         print_entity(library, entity, finding, printer)?;
     }
     Ok(())
 }
 
 /// A first breach as it is printed.
-fn finding_of<'a>(
-    files: &'a [NamedFile],
-    first: Option<Breach>,
-    nameless: &'a Name,
-) -> Option<Finding<'a>>
-    requires { nameless.now ≡ [] }
+fn finding_of<'a>(files: &'a [NamedFile], first: Option<Breach>) -> Option<Finding<'a>>
+    requires { BreachIsPlaced (length files.now) first }
     ensures { option_map shown result ≡ option_map (finding_of files.now) first }
 {
     match first {
         Some(breach) => Some(Finding {
             clause: breach.clause,
-            at: position_of(files, breach.place, nameless),
+            at: position_of(files, breach.place),
         }),
         None => None,
     }

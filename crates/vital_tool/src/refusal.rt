@@ -1,15 +1,15 @@
 //! How words and files are refused.
 
-ghost use Rattle.std.specs.Prelude.{◌≡◌, [], false};
+ghost use Rattle.std.specs.Prelude.{◌≡◌, false, length};
 ghost use Rattle.vital_report.specs.Lines.{spot};
 ghost use Rattle.vital_tool.specs.Refusals.{place_of, printed_usage, refused_at, refused_words, spot_of};
 ghost use Rattle.vital_tool.specs.Given.{GivesRefusal};
 ghost use Rattle.vital_tool.specs.Outcome.{Stage};
+ghost use Rattle.vital_tool.specs.Placed.{IsPlaced};
 
 use crate::lines::refuse;
 use crate::status::Status;
-use std::alloc::Global;
-use vital_base::{Name, Place, Sink};
+use vital_base::{Place, Sink};
 use vital_library::LibraryError;
 use vital_report::{
     LexicalWhy, LibraryWhy, Limit, Line, Position, Printer, UsageWhy as PrintedUsage,
@@ -44,16 +44,15 @@ impl Refusal {
 
 /// Prints the one line of a refusal of these files, and ends with its status.
 pub fn refuse_files<K: Sink>(
-    alloc: Global,
     files: &[NamedFile],
     refusal: Refusal,
     printer: &mut Printer<'_, K>,
 ) -> Status
-    requires { printer.old.stopped ≡ false }
+    requires placed { IsPlaced (length files.now) (place_of refusal) }
+    requires goes_on { printer.old.stopped ≡ false }
     ensures { Stage (λ answer. answer ≡ refused_at files.now refusal) result printer.old printer.new }
 {
-    let nameless = Name::new(Vec::new(alloc));
-    let at = position_of(files, refusal.place(), &nameless);
+    let at = position_of(files, refusal.place());
     match refusal {
         Refusal::Lexical { why, .. } => {
             let line = Line::RefusedLexical { at, why };
@@ -74,17 +73,13 @@ pub fn refuse_files<K: Sink>(
     }
 }
 
-/// A place as it is printed, with the name of its file; every file of a run has one, and `nameless` stands for none.
-pub fn position_of<'a>(files: &'a [NamedFile], place: Place, nameless: &'a Name) -> Position<'a>
-    requires { nameless.now ≡ [] }
+/// A place in one of these files as it is printed, with the name of its file.
+pub fn position_of<'a>(files: &'a [NamedFile], place: Place) -> Position<'a>
+    requires { IsPlaced (length files.now) place }
     ensures { spot result ≡ spot_of files.now place }
 {
-    let file = match files.get(place.file as usize) {
-        Some(file) => &file.name,
-        None => nameless,
-    };
     Position {
-        file,
+        file: &files[place.file as usize].name,
         line: place.line,
         column: place.column,
     }

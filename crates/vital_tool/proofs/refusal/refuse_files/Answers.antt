@@ -20,7 +20,7 @@ returns-in-Limit g c =
     let at = c.position_of-at.ensures ∙ ap (spot_of c.args.files.now) c.place.ensures in
     stage_for _ _ _ _ _ c.refuse-in-Limit.ensures (λ answer is. is ∙ limit_is c.args.files.now c.args.refusal c.in-Limit.limit c.in-Limit.place (spot c.position_of-at.result) c.in-Limit.is at)
 
-pub returns : goal.returns
-returns g c =
+pub returns-in-Library : goal.returns-in-Library
+returns-in-Library g c =
     let at = c.position_of-at.ensures ∙ ap (spot_of c.args.files.now) c.place.ensures in
     stage_for _ _ _ _ _ c.refuse-in-Library.ensures (λ answer is. is ∙ library_is c.args.files.now c.args.refusal c.in-Library.why c.in-Library.place (spot c.position_of-at.result) c.in-Library.is at)
