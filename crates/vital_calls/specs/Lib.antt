@@ -1,0 +1,3 @@
+pub mod Formals
+pub mod Calls
+pub mod Matching
