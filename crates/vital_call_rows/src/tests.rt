@@ -96,7 +96,10 @@ fn asked(
 {
     let units = read(alloc, rules, text)?;
     let mut forms = Vec::new(alloc);
-    let Some(call) = name_in(&units).and_then(call_of) else {
+    let Some(name) = name_in(&units) else {
+        return Err(UnitError::NoMemory);
+    };
+    let Some(call) = call_of(name) else {
         return Err(UnitError::NoMemory);
     };
     let formals = formals(callee);
@@ -117,11 +120,17 @@ fn given(
     requires { rules.now ≡ grammar }
 {
     let units = read(alloc, rules, text)?;
-    let Some(call) = name_in(&units).and_then(call_of) else {
+    let Some(name) = name_in(&units) else {
+        return Err(UnitError::NoMemory);
+    };
+    let Some(call) = call_of(name) else {
         return Err(UnitError::NoMemory);
     };
     let given = actual_of(call.items, formals(callee), formal.as_bytes());
-    match given.and_then(actual) {
+    let Some(item) = given else {
+        return Ok(None);
+    };
+    match actual(item) {
         Some(value) => Ok(Some(value.place().column)),
         None => Ok(None),
     }
