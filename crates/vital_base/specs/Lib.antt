@@ -1,3 +1,5 @@
+pub mod Places
+pub mod Breaches
 pub mod Faults
 pub mod FileShelves
 pub mod MemShelves

@@ -5,9 +5,10 @@ use Rattle.std.specs.List.{Contains, slice_get}
 use Rattle.std.specs.Ordering.{is_eq}
 use Rattle.std.specs.declared.cmp.Ordering.TheVariants.{Equal}
 use Rattle.vital_base.specs.contracts.breach.BreachOrd.TheImpl.Laws.{total-law}
+use Rattle.vital_base.specs.Breaches.{Rises, compare}
 use Rattle.vital_base.specs.declared.breach.Breach.{Breach}
 use Rattle.vital_nodes.specs.declared.unit.Entity.{Entity}
-use Rattle.vital_level0.specs.Breaches.{HasOneFirst, IsBreach, IsFirst, Rises, compare}
+use Rattle.vital_level0.specs.Breaches.{HasOneFirst, IsBreach, IsFirst}
 use Rattle.vital_level0.specs.Found.{of_entity}
 use Rattle.vital_level0.proofs.BreachLemmas.{breach-is-found, found-is-breach, none-in-nil}
 use Rattle.vital_level0.proofs.FirstLemmas.{Leads, first-leads, head-leads, one-leads}

@@ -5,10 +5,11 @@ use Rattle.std.specs.Ordering.{is_eq, nat_cmp, ordering_then}
 use Rattle.std.specs.declared.cmp.Ordering.{Ordering}
 use Rattle.std.specs.declared.cmp.Ordering.TheVariants.{Less, Equal, Greater}
 use Rattle.std.proofs.lemmas.Bool.{eqb-true}
+use Rattle.vital_base.specs.Breaches.{compare, compare_clauses}
+use Rattle.vital_base.specs.Places.{compare_places}
 use Rattle.vital_base.specs.declared.breach.Breach.{Breach}
 use Rattle.vital_base.specs.declared.breach.Clause.{Clause}
 use Rattle.vital_base.specs.declared.place.Place.{Place}
-use Rattle.vital_level0.specs.Breaches.{compare, compare_clauses, compare_places}
 
 both-equal : (a b : Ordering) → is_eq (ordering_then a b) ≡ true → (is_eq a ≡ true) × (is_eq b ≡ true)
 both-equal Less b h = let bad : false ≡ true = h in cc

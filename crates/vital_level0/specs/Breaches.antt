@@ -1,13 +1,10 @@
--- Breaches of Level 0, and their order.
-use Rattle.std.specs.Prelude.{◌≡◌, ◌≢◌, ℕ, true, List, Option, Some, None}
-use Rattle.std.specs.Ordering.{nat_cmp, ordering_then}
-use Rattle.std.specs.declared.cmp.Ordering.{Ordering}
+-- Breaches of Level 0.
+use Rattle.std.specs.Prelude.{◌≡◌, ◌≢◌, ℕ, true, Option, Some, None}
 use Rattle.std.specs.declared.cmp.Ordering.TheVariants.{Less}
-use Rattle.std.specs.List.Sorted.{IsStrictlySortedBy}
-use Rattle.vital_base.specs.declared.place.Place.{Place}
-use Rattle.vital_nodes.specs.declared.unit.Entity.{Entity}
+use Rattle.vital_base.specs.Breaches.{compare}
 use Rattle.vital_base.specs.declared.breach.Breach.{Breach}
 use Rattle.vital_base.specs.declared.breach.Clause.{Clause}
+use Rattle.vital_nodes.specs.declared.unit.Entity.{Entity}
 use Rattle.vital_level0.specs.Clauses.{Breaks1, Breaks2, Breaks3, BreaksAtPort, BreaksAtGeneric, BreaksL7, BreaksL10, BreaksSplit, breaks_4, breaks_5, breaks_6, breaks_8, breaks_9}
 
 -- The clause L0.n.
@@ -26,20 +23,6 @@ pub data IsBreach (e : Entity) (b : Breach) : Type 0 where
   clause_8 : b.clause ≡ level_0 8 → BreaksAtGeneric (BreaksSplit breaks_8) e b.place → IsBreach e b
   clause_9 : b.clause ≡ level_0 9 → BreaksAtGeneric (λ _ g. breaks_9 g ≡ true) e b.place → IsBreach e b
   clause_10 : b.clause ≡ level_0 10 → BreaksAtGeneric BreaksL10 e b.place → IsBreach e b
-
--- Places are ordered by file, line and column, and breaches by place and then by clause.
-abbrev pub compare_places : Place → Place → Ordering
-compare_places a b = ordering_then (nat_cmp a.file b.file) (ordering_then (nat_cmp a.line b.line) (nat_cmp a.column b.column))
-
-abbrev pub compare_clauses : Clause → Clause → Ordering
-compare_clauses a b = ordering_then (nat_cmp a.level b.level) (nat_cmp a.number b.number)
-
-abbrev pub compare : Breach → Breach → Ordering
-compare a b = ordering_then (compare_places a.place b.place) (compare_clauses a.clause b.clause)
-
--- Each breach stands before those after it.
-abbrev pub Rises : List Breach → Type 0
-Rises breaches = IsStrictlySortedBy compare breaches
 
 -- The first breach of an entity, which no other comes before; there is none where no clause is broken.
 abbrev pub IsFirst : Entity → Option Breach → Type 0

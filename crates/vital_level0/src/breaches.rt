@@ -2,8 +2,9 @@
 
 ghost use Rattle.std.specs.Prelude.{IfOk};
 ghost use Rattle.std.specs.List.{Contains, slice_get};
+ghost use Rattle.vital_base.specs.Breaches.{Rises};
 ghost use Rattle.vital_base.specs.declared.breach.Breach.{Breach as Breach'};
-ghost use Rattle.vital_level0.specs.Breaches.{HasOneFirst, IsBreach, IsFirst, Rises};
+ghost use Rattle.vital_level0.specs.Breaches.{HasOneFirst, IsBreach, IsFirst};
 
 use crate::found::of_entity;
 use std::alloc::{AllocError, Global};

@@ -1,8 +1,8 @@
 -- The faults of units, and the one of them that counts.
-use Rattle.std.specs.Prelude.{ℕ, ◌==◌, nat_lt, Bool, false, ◌&&◌, ◌||◌, not, List, [], ◌∷◌, ◌++◌, map, filter, fold, Option, Some, None, if◌then◌else◌}
+use Rattle.std.specs.Prelude.{ℕ, Bool, false, ◌&&◌, not, List, [], ◌∷◌, ◌++◌, map, filter, fold, Option, Some, None, if◌then◌else◌}
 use Rattle.std.specs.List.{list_any}
 use Rattle.std.specs.Str.{bytes_eq}
-use Rattle.vital_base.specs.declared.place.Place.{Place}
+use Rattle.vital_base.specs.Places.{is_before}
 use Rattle.vital_nodes.specs.declared.unit.Arch.{Arch}
 use Rattle.vital_nodes.specs.declared.unit.Unit.{Unit as Unit'}
 use Rattle.vital_nodes.specs.declared.unit.Unit.TheVariants as unit
@@ -48,10 +48,6 @@ no_entity arch = record { kind = NoEntity; place = arch.entity.place }
 -- All faults.
 abbrev pub faults : List Unit' → List Fault
 faults units = map duplicate (duplicates units) ++ map no_entity (without_entity units)
-
--- Places are ordered by file, then line, then column.
-abbrev pub is_before : Place → Place → Bool
-is_before a b = nat_lt a.file b.file || (a.file == b.file && (nat_lt a.line b.line || (a.line == b.line && nat_lt a.column b.column)))
 
 -- The one of two faults that stands before the other; at one place the first of them.
 abbrev pub sooner : Option Fault → Fault → Option Fault

@@ -2,11 +2,11 @@
 use Rattle.std.specs.Prelude.{ℕ, List, take, Option, Some, None, if◌then◌else◌}
 use Rattle.std.specs.List.{enumerate_from, find}
 use Rattle.std.specs.Option.{option_and_then, option_map, option_or}
+use Rattle.vital_base.specs.Places.{is_before}
 use Rattle.vital_base.specs.declared.place.Place.{Place}
 use Rattle.vital_nodes.specs.declared.decl.Object.{Object as Object'}
 use Rattle.vital_nodes.specs.declared.unit.Units.{Units}
 use Rattle.vital_library.specs.Constants.{constants_of, has_name}
-use Rattle.vital_library.specs.Faults.{is_before}
 use Rattle.vital_names.specs.declared.meaning.Meaning.{Meaning as Meaning'}
 use Rattle.vital_names.specs.declared.meaning.Meaning.TheVariants as borrowed
 use Rattle.vital_names.specs.declared.predeclared.Predeclared.{Predeclared as Predeclared'}

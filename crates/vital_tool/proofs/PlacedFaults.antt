@@ -3,8 +3,9 @@ use Rattle.std.proofs.Common.{◌≡◌, ℕ, ◌<◌, true, false, List, [], �
 use Rattle.std.specs.Prelude.{Bool, not, fold, cond, Option, IfSome}
 use Rattle.std.specs.List.{list_any}
 use Rattle.std.proofs.lemmas.List.Elements.{All-append, All-cons, All-filter, All-head, All-map, All-nil, All-tail}
+use Rattle.vital_base.specs.Places.{is_before}
 use Rattle.vital_base.specs.declared.place.Place.{Place}
-use Rattle.vital_library.specs.Faults.{duplicate, duplicates, duplicates_after, faults, has_entity, is_before, least_of, no_entity, shares_name, sooner, without_entity}
+use Rattle.vital_library.specs.Faults.{duplicate, duplicates, duplicates_after, faults, has_entity, least_of, no_entity, shares_name, sooner, without_entity}
 use Rattle.vital_library.specs.Gathered.{GivesLibrary, gathered, judged, limited, refusal}
 use Rattle.vital_library.specs.Units.{archs_among, as_arch, units_of}
 use Rattle.vital_library.specs.declared.error.LibraryError.{LibraryError}
