@@ -1,10 +1,13 @@
-//! What timing is described by (IEEE 1076.4, package VITAL_Timing): delays and their types, and how glitches are treated.
+//! What timing is described by (IEEE 1076.4, package VITAL_Timing): delays and their types, the times of literals, and how glitches
+//! are treated.
 #![tactic(auto)]
 
 mod delay;
 mod glitch_mode;
 #[cfg(test)]
 mod tests;
+mod time_literal;
 
 pub use delay::{Delay, DelayType};
 pub use glitch_mode::GlitchMode;
+pub use time_literal::{GREATEST_DELAY, UnitOfTime};
