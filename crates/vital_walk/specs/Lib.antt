@@ -3,3 +3,4 @@ pub mod Names
 pub mod Bounds
 pub mod Items
 pub mod Calls
+pub mod Statements

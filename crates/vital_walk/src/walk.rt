@@ -20,8 +20,11 @@ fn put_reversed<'a>(to: &mut Vec<Node<'a>>, from: &mut Vec<Node<'a>>) -> Result<
     Ok(())
 }
 
-/// The nodes of parts that stand one behind another, in preorder.
-fn walked<'a>(alloc: Global, mut parts: Vec<Node<'a>>) -> Result<Vec<Node<'a>>, AllocError>
+/// The nodes of nodes that stand one behind another, in preorder.
+pub fn nodes_of_all<'a>(
+    alloc: Global,
+    mut parts: Vec<Node<'a>>,
+) -> Result<Vec<Node<'a>>, AllocError>
     ensures { IfOk result (λ nodes. map seen nodes.items ≡ nodes_of_all (map seen parts.entry.items)) }
 {
     walked_in_preorder();
@@ -44,7 +47,7 @@ pub fn nodes<'a>(alloc: Global, unit: &'a Unit) -> Result<Vec<Node<'a>>, AllocEr
 {
     let mut parts = Vec::new(alloc);
     put_parts_of_unit(&mut parts, unit)?;
-    walked(alloc, parts)
+    nodes_of_all(alloc, parts)
 }
 
 /// A node and all that it holds, in preorder.
@@ -53,5 +56,5 @@ pub fn nodes_of<'a>(alloc: Global, node: Node<'a>) -> Result<Vec<Node<'a>>, Allo
 {
     let mut parts = Vec::new(alloc);
     parts.push(node)?;
-    walked(alloc, parts)
+    nodes_of_all(alloc, parts)
 }

@@ -1,7 +1,7 @@
 use Rattle.std.proofs.Common.{◌≡◌, ◌++◌, [], length, map, reverse}
 use Rattle.vital_nodes.specs.Walk.{nodes_of_all}
 use Rattle.vital_walk.specs.Seen.{seen}
-use Rattle.vital_walk.proofs.walk.walked.Given as goal
+use Rattle.vital_walk.proofs.walk.nodes_of_all.Given as goal
 
 abbrev pub invariant-loop-node : goal.invariant-loop-node
 invariant-loop-node l = record {

@@ -2,7 +2,7 @@ use Rattle.std.proofs.Common.{◌++◌, map, ap, ◌∙◌}
 use Rattle.vital_nodes.specs.Nodes.{parts_of}
 use Rattle.vital_walk.specs.Seen.{seen}
 use Rattle.vital_walk.proofs.Turns.{ahead-taken, begun, fewer, turned}
-use Rattle.vital_walk.proofs.walk.walked.Goals as goal
+use Rattle.vital_walk.proofs.walk.nodes_of_all.Goals as goal
 
 pub loop-node-init : goal.loop-node-init
 loop-node-init c = record {
