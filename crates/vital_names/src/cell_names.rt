@@ -85,6 +85,20 @@ impl<'a> CellNames<'a> {
         })
     }
 
+    /// The entity of the cell.
+    pub fn entity(&self) -> &'a Entity
+        ensures { result.now ≡ self.now.entity }
+    {
+        self.entity
+    }
+
+    /// The architecture of the cell, if it has one.
+    pub fn arch(&self) -> Option<&'a Arch>
+        ensures { option_copied result ≡ self.now.arch }
+    {
+        self.arch
+    }
+
     /// What a name means at a site of the cell. Names are as identifiers keep them, and are looked up in maps.
     pub fn meaning(&self, name: &[u8], site: &Site<'a>) -> Option<Meaning<'a>>
         ensures { option_map lent result ≡ meaning name.now self.now (sites.lent site.now) }
@@ -109,7 +123,7 @@ impl<'a> CellNames<'a> {
     }
 
     /// What a name is predeclared as.
-    pub(crate) fn predeclared(&self, name: &[u8]) -> Option<Predeclared>
+    pub fn predeclared(&self, name: &[u8]) -> Option<Predeclared>
         ensures { result ≡ predeclared name.now }
     {
         self.library.predeclared(name)

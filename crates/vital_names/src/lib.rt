@@ -18,6 +18,7 @@ mod words;
 
 pub use cell_names::CellNames;
 pub use declared::{Declared, declared_by};
+pub use first_names::put_first;
 pub use library_names::LibraryNames;
 pub use meaning::{Meaning, PackageConstant};
 pub use predeclared::{

@@ -44,6 +44,13 @@ impl<'a> ProcessNames<'a> {
         Ok(ProcessNames { process, first })
     }
 
+    /// The process.
+    pub fn process(&self) -> &'a Process
+        ensures { result.now ≡ self.now }
+    {
+        self.process
+    }
+
     /// What the process declares, in order.
     pub(crate) fn declared(&self, alloc: Global) -> Result<Vec<Declared<'a>>, AllocError>
         ensures { IfOk result (λ list. map lent list.items ≡ declared_in self.now.declarations) }
