@@ -85,6 +85,13 @@ impl<'a> CellNames<'a> {
         })
     }
 
+    /// The library of the cell.
+    pub fn library(&self) -> &'a LibraryNames<'a>
+        ensures { result.now ≡ self.now.files }
+    {
+        self.library
+    }
+
     /// The entity of the cell.
     pub fn entity(&self) -> &'a Entity
         ensures { result.now ≡ self.now.entity }
