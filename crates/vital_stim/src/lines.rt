@@ -1,15 +1,12 @@
 //! The lines of a text.
 
-ghost use Rattle.std.specs.Prelude.{◌≡◌, ◌+◌, ◌<◌, ◌≤◌, ℕ, List, [], length, position, if◌then◌else◌};
+ghost use Rattle.std.specs.Prelude.{◌≡◌, ◌≤◌, ℕ, List, [], length, if◌then◌else◌};
 ghost use Rattle.std.specs.Iterator.{YieldsFirstRef, item_count};
 ghost use Rattle.std.specs.List.{position_or_len};
 ghost use Rattle.vital_stim.specs.Parts.{is_line_end, lines_of};
 
+use memchr::memchr;
 use std::marker::Model;
-use std::simd::prelude::*;
-
-/// How many bytes are tested at once.
-const LANES: usize = 32;
 
 /// The lines of a text that are left, from first to last. What follows the last LF is a line too, and may be empty.
 #[derive(Drop)]
@@ -63,33 +60,5 @@ fn line_end(text: &[u8]) -> usize
     ensures place { result ≡ position_or_len is_line_end text.now }
     ensures within { result ≤ length text.now }
 {
-    if LANES <= text.len() {
-        let end = near_line_end(text);
-        if end < LANES {
-            return end;
-        }
-    }
-    first_line_end(text).unwrap_or(text.len())
-}
-
-/// The place of the first LF.
-fn first_line_end(text: &[u8]) -> Option<usize>
-    ensures { result ≡ position is_line_end text.now }
-{
-    text.iter().position(|byte| *byte == b'\n')
-}
-
-/// The place of the first LF, if it is among the first bytes, which are tested at once; else how many these are.
-fn near_line_end(text: &[u8]) -> usize
-    requires { LANES ≤ length text.now }
-    ensures { result < LANES → result ≡ position_or_len is_line_end text.now }
-{
-    let ends = u8x32::from_slice(text)
-        .simd_eq(u8x32::splat(b'\n'))
-        .to_bitmask();
-    if ends == 0 {
-        LANES
-    } else {
-        ends.trailing_zeros() as usize
-    }
+    memchr(b'\n', text).unwrap_or(text.len())
 }
