@@ -6,6 +6,7 @@ use Rattle.std.specs.Str.{bytes_eq}
 use Rattle.vital_nodes.specs.declared.expr.Logical.TheVariants as gate
 use Rattle.vital_timing.specs.declared.delay.DelayType.TheVariants as delay
 use Rattle.vital_timing.specs.declared.glitch_mode.GlitchMode.TheVariants as mode
+use Rattle.vital_timing.specs.declared.time_literal.UnitOfTime.TheVariants as unit
 use Rattle.vital_names.specs.declared.predeclared.Predeclared.{Predeclared}
 use Rattle.vital_names.specs.declared.predeclared.Predeclared.TheVariants as word
 use Rattle.vital_names.specs.declared.predeclared.Check.TheVariants as check
@@ -16,7 +17,6 @@ use Rattle.vital_names.specs.declared.predeclared.Primitive.TheVariants as primi
 use Rattle.vital_names.specs.declared.predeclared.Procedure.TheVariants as procedure
 use Rattle.vital_names.specs.declared.predeclared.Severity.TheVariants as severity
 use Rattle.vital_names.specs.declared.predeclared.TypeName.TheVariants as type_name
-use Rattle.vital_names.specs.declared.predeclared.UnitOfTime.TheVariants as unit
 
 -- The predeclared words in lower case, each with its meaning.
 abbrev pub words : List (List ℕ × Predeclared)

@@ -23,7 +23,6 @@ pub use library_names::LibraryNames;
 pub use meaning::{Meaning, PackageConstant};
 pub use predeclared::{
     Check, Conversion, Function, Inputs, Predeclared, Primitive, Procedure, Severity, TypeName,
-    UnitOfTime,
 };
 pub use process_names::ProcessNames;
 pub use site::{CellUnit, Site};

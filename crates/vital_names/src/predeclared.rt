@@ -2,7 +2,7 @@
 //! VITAL_Timing and VITAL_Primitives (IEEE 1076.4).
 
 use vital_nodes::Logical;
-use vital_timing::{DelayType, GlitchMode};
+use vital_timing::{DelayType, GlitchMode, UnitOfTime};
 
 /// What a predeclared name means.
 #[derive(Clone, Copy, Debug, PartialEq, Eq)]
@@ -29,19 +29,6 @@ pub enum Severity {
     Warning,
     Error,
     Failure,
-}
-
-/// A unit of type TIME (IEEE 1076-1993, 14.2).
-#[derive(Clone, Copy, Debug, PartialEq, Eq)]
-pub enum UnitOfTime {
-    Femtosecond,
-    Picosecond,
-    Nanosecond,
-    Microsecond,
-    Millisecond,
-    Second,
-    Minute,
-    Hour,
 }
 
 /// A type that declarations may name.

@@ -2,13 +2,12 @@
 
 use crate::predeclared::{
     Check, Conversion, Function, Inputs, Predeclared, Primitive, Procedure, Severity, TypeName,
-    UnitOfTime,
 };
 use crate::words::predeclared_meanings;
 use std::collections::HashMap;
 use std::test::Fail;
 use vital_nodes::Logical;
-use vital_timing::{DelayType, GlitchMode};
+use vital_timing::{DelayType, GlitchMode, UnitOfTime};
 
 /// Words in lower case with their meanings.
 static MEANINGS: [(&[u8], Predeclared); 80] = [

@@ -7,12 +7,11 @@ ghost use Rattle.vital_names.specs.Words.{meaning_among, predeclared};
 use crate::first_names::put_first;
 use crate::predeclared::{
     Check, Conversion, Function, Inputs, Predeclared, Primitive, Procedure, Severity, TypeName,
-    UnitOfTime,
 };
 use std::alloc::{AllocError, Global};
 use std::collections::HashMap;
 use vital_nodes::Logical;
-use vital_timing::{DelayType, GlitchMode};
+use vital_timing::{DelayType, GlitchMode, UnitOfTime};
 
 /// The predeclared words in lower case, each with its meaning.
 static WORDS: [(&[u8], Predeclared); 80] = [
