@@ -1,7 +1,7 @@
 //! The parts of declarations, generics and ports.
 
 ghost use Rattle.std.specs.Prelude.{◌≡◌, ◌++◌, map, OnOk};
-ghost use Rattle.vital_nodes.specs.Nodes.{parts_of_alias, parts_of_decl, parts_of_iface, parts_of_object, parts_of_subtype};
+ghost use Rattle.vital_nodes.specs.Nodes.{expression_if_there, parts_of_alias, parts_of_decl, parts_of_iface, parts_of_object, parts_of_subtype};
 ghost use Rattle.vital_walk.specs.Seen.{seen};
 
 use crate::expression_parts::put_parts_of_range;
@@ -43,6 +43,13 @@ fn put_parts_of_object<'a>(nodes: &mut Vec<Node<'a>>, object: &'a Object) -> Res
     if !object.is_last {
         return Ok(());
     }
+    put_shared_parts(nodes, object)
+}
+
+/// Puts what an object shares with those that are declared together with it at the end: the parts of its subtype, and its value.
+pub fn put_shared_parts<'a>(nodes: &mut Vec<Node<'a>>, object: &'a Object) -> Result<(), AllocError>
+    ensures { OnOk result (map seen nodes.new.items ≡ map seen nodes.old.items ++ parts_of_subtype object.now.parts.subtype ++ expression_if_there object.now.parts.value) }
+{
     let parts = object.parts.get();
     put_parts_of_subtype(nodes, &parts.subtype)?;
     put_if_there(nodes, &parts.value)

@@ -19,6 +19,7 @@ mod upward;
 mod walk;
 
 pub use concurrent::{call, call_items};
+pub use declaration_parts::put_shared_parts;
 pub use identifier::HasIdentifier;
 pub use item::{actual, formal};
 pub use name::{identifier_of, last_identifier, plain_identifier};
@@ -29,4 +30,4 @@ pub use statements::{all_concurrent, all_sequential};
 pub use subtype::{LiteralBounds, literal_bounds, literal_integer};
 pub use unit_parts::put_parts;
 pub use upward::{UpwardRule, fold_up};
-pub use walk::{nodes, nodes_of, nodes_of_all};
+pub use walk::{nodes, nodes_of, nodes_of_all, nodes_of_arch, nodes_of_entity};
