@@ -3,6 +3,8 @@ pub mod Words
 pub mod Declarations
 pub mod Sites
 pub mod Meanings
+pub mod Kinds
+pub mod TypeNames
 pub mod Kept
 pub mod Viewpoints
 pub mod Redeclared

@@ -13,6 +13,7 @@ mod redeclared;
 mod site;
 #[cfg(test)]
 mod tests;
+mod type_names;
 mod viewpoint;
 mod words;
 

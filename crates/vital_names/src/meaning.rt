@@ -1,7 +1,11 @@
 //! What names mean.
 
+ghost use Rattle.std.specs.Prelude.{◌≡◌};
+ghost use Rattle.vital_names.specs.Kinds as kinds;
+ghost use Rattle.vital_names.specs.Meanings.{lent};
+
 use crate::declared::Declared;
-use crate::predeclared::Predeclared;
+use crate::predeclared::{Function, Predeclared, Procedure};
 use vital_nodes::Object;
 
 /// A constant of a package.
@@ -19,4 +23,26 @@ pub enum Meaning<'a> {
     Declared(Declared<'a>),
     Constant(PackageConstant<'a>),
     Predeclared(Predeclared),
+}
+
+impl<'a> Meaning<'a> {
+    /// The predeclared function that is meant, if one is.
+    pub fn function(self) -> Option<Function>
+        ensures { result ≡ kinds.function_meant (lent self.entry) }
+    {
+        match self {
+            Meaning::Predeclared(word) => word.as_function(),
+            Meaning::Declared(_) | Meaning::Constant(_) => None,
+        }
+    }
+
+    /// The predeclared procedure that is meant, if one is.
+    pub fn procedure(self) -> Option<Procedure>
+        ensures { result ≡ kinds.procedure_meant (lent self.entry) }
+    {
+        match self {
+            Meaning::Predeclared(word) => word.as_procedure(),
+            Meaning::Declared(_) | Meaning::Constant(_) => None,
+        }
+    }
 }

@@ -1,6 +1,9 @@
 //! What is predeclared in every cell: names of the packages STANDARD (IEEE 1076-1993, 14.2), STD_LOGIC_1164 (IEEE 1164),
 //! VITAL_Timing and VITAL_Primitives (IEEE 1076.4).
 
+ghost use Rattle.std.specs.Prelude.{◌≡◌};
+ghost use Rattle.vital_names.specs.Kinds as kinds;
+
 use vital_nodes::Logical;
 use vital_timing::{DelayType, GlitchMode, UnitOfTime};
 
@@ -20,6 +23,38 @@ pub enum Predeclared {
     PeriodDataInit,
     Function(Function),
     Procedure(Procedure),
+}
+
+impl Predeclared {
+    /// The type that a word is predeclared as, if it is one.
+    pub fn as_type(self) -> Option<TypeName>
+        ensures { result ≡ kinds.as_type self }
+    {
+        match self {
+            Predeclared::TypeName(type_name) => Some(type_name),
+            _ => None,
+        }
+    }
+
+    /// The function that a word is predeclared as, if it is one.
+    pub fn as_function(self) -> Option<Function>
+        ensures { result ≡ kinds.as_function self }
+    {
+        match self {
+            Predeclared::Function(function) => Some(function),
+            _ => None,
+        }
+    }
+
+    /// The procedure that a word is predeclared as, if it is one.
+    pub fn as_procedure(self) -> Option<Procedure>
+        ensures { result ≡ kinds.as_procedure self }
+    {
+        match self {
+            Predeclared::Procedure(procedure) => Some(procedure),
+            _ => None,
+        }
+    }
 }
 
 /// How severe a message is (IEEE 1076-1993, 14.2).
