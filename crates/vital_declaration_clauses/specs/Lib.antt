@@ -1,0 +1,4 @@
+pub mod Regions
+pub mod Scopes
+pub mod GoodConstants
+pub mod Clauses
