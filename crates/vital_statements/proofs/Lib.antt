@@ -1,0 +1,4 @@
+pub mod Steps
+pub mod BareLemmas
+pub mod SectionLemmas
+pub mod CheckLemmas
