@@ -1,0 +1,6 @@
+pub mod Actuals
+pub mod Named
+pub mod Wires
+pub mod PathDelays
+pub mod Clauses
+pub mod Kept
