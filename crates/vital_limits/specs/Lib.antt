@@ -1,0 +1,4 @@
+pub mod Passed
+pub mod Counts
+pub mod NodeLimits
+pub mod TextLimits

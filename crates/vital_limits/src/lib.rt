@@ -1,0 +1,10 @@
+//! The limits of one cell: how many ports, rows, columns and paths it has at most, and how long its times are.
+#![tactic(auto)]
+
+mod counts;
+mod node_limits;
+mod passed;
+mod text_limits;
+
+pub use passed::{CellLimit, PassedLimit, earliest};
+pub use text_limits::own_limits;

@@ -1,0 +1,275 @@
+//! The limits that a node passes.
+
+ghost use Rattle.std.specs.Prelude.{◌≡◌, ◌++◌, IfOk, OnOk};
+ghost use Rattle.std.specs.List.{flat_map};
+ghost use Rattle.std.specs.Option.{option_copied};
+ghost use Rattle.vital_limits.specs.NodeLimits as spec;
+ghost use Rattle.vital_walk.specs.Seen.{seen};
+
+use crate::counts::{listed, listed_in, longest};
+use crate::passed::{CellLimit, PassedLimit};
+use std::alloc::AllocError;
+use vital_base::Place;
+use vital_calls::call_of;
+use vital_names::{LibraryNames, Predeclared, Procedure, TypeName};
+use vital_nodes::{Choice, Conc, Decl, Expr, Item, Object, ObjectClass, Physical, Reference, Stmt};
+use vital_timing::UnitOfTime;
+use vital_walk::{HasPlace, Node, call, formal, identifier_of};
+
+/// A table has at most so many rows.
+const MOST_ROWS: usize = 128;
+
+/// A table has at most so many columns.
+const MOST_COLUMNS: usize = 32;
+
+/// A call of a path delay has at most so many paths.
+const MOST_PATHS: usize = 64;
+
+/// Puts a limit at the end if it is passed.
+pub fn put_if(
+    limits: &mut Vec<PassedLimit>,
+    is_passed: bool,
+    limit: CellLimit,
+    place: Place,
+) -> Result<(), AllocError>
+    ensures { OnOk result (limits.new.items ≡ limits.old.items ++ spec.if_passed is_passed limit place) }
+{
+    if is_passed {
+        limits.push(PassedLimit { place, limit })?;
+    }
+    Ok(())
+}
+
+/// Puts the limits that a node passes at the end, without those of what it holds.
+#[tactic(auto, unfolding(crate::specs::NodeLimits::limits_of_node))]
+pub fn put_limits_of_node(
+    limits: &mut Vec<PassedLimit>,
+    library: &LibraryNames<'_>,
+    node: Node<'_>,
+) -> Result<(), AllocError>
+    ensures { OnOk result (limits.new.items ≡ limits.old.items ++ spec.limits_of_node (seen node.entry)) }
+{
+    match node {
+        Node::Declaration(decl) => put_of_declaration(limits, library, decl),
+        Node::Concurrent(conc) => put_of_concurrent(limits, library, conc),
+        Node::Sequential(stmt) => put_of_sequential(limits, library, stmt),
+        Node::Expression(expr) => {
+            put_if(
+                limits,
+                is_too_long_node(node),
+                CellLimit::Delay,
+                expr.place(),
+            )
+        }
+        _ => Ok(()),
+    }
+}
+
+// ---- tables
+
+/// Puts the limits that a declaration passes at the end.
+fn put_of_declaration(
+    limits: &mut Vec<PassedLimit>,
+    library: &LibraryNames<'_>,
+    decl: &Decl,
+) -> Result<(), AllocError>
+    ensures { OnOk result (limits.new.items ≡ limits.old.items ++ spec.limits_of_declaration decl.now) }
+{
+    match decl {
+        Decl::Object(object) => put_of_object(limits, library, object),
+        _ => Ok(()),
+    }
+}
+
+/// Whether a type of a name is one of tables.
+fn is_table_type(library: &LibraryNames<'_>, name: &Reference) -> bool
+    ensures { result ≡ spec.is_table_type name.now }
+{
+    matches!(
+        library.type_named(name),
+        Some(TypeName::TruthTable | TypeName::StateTable)
+    )
+}
+
+/// Whether an object is a constant of a type of tables.
+fn is_table(library: &LibraryNames<'_>, object: &Object) -> bool
+    ensures { result ≡ spec.is_table object.now }
+{
+    object.class == ObjectClass::Constant
+        && is_table_type(library, &object.parts.get().subtype.name)
+}
+
+/// The rows of the value of a constant.
+fn rows_of(object: &Object) -> &[Item]
+    ensures { result.now ≡ spec.rows_of object.now }
+{
+    match &object.parts.get().value {
+        Some(value) => listed(value),
+        None => &[],
+    }
+}
+
+/// Whether an object is a table with too many rows.
+pub fn has_too_many_rows(library: &LibraryNames<'_>, object: &Object) -> bool
+    ensures { result ≡ spec.has_too_many_rows object.now }
+{
+    is_table(library, object) && MOST_ROWS < rows_of(object).len()
+}
+
+/// Whether an object is a table whose longest row has too many items.
+pub fn has_too_many_columns(library: &LibraryNames<'_>, object: &Object) -> bool
+    ensures { result ≡ spec.has_too_many_columns object.now }
+{
+    is_table(library, object) && MOST_COLUMNS < longest(rows_of(object))
+}
+
+/// Puts the limits that an object passes as a table at the end.
+fn put_of_object(
+    limits: &mut Vec<PassedLimit>,
+    library: &LibraryNames<'_>,
+    object: &Object,
+) -> Result<(), AllocError>
+    ensures { OnOk result (limits.new.items ≡ limits.old.items ++ spec.limits_of_object object.now) }
+{
+    let place = object.identifier.place;
+    put_if(
+        limits,
+        has_too_many_rows(library, object),
+        CellLimit::Rows,
+        place,
+    )?;
+    put_if(
+        limits,
+        has_too_many_columns(library, object),
+        CellLimit::Columns,
+        place,
+    )
+}
+
+// ---- paths
+
+/// Whether a name is that of a path delay, read by its text.
+fn is_path_delay(library: &LibraryNames<'_>, name: &[u8]) -> bool
+    ensures { result ≡ spec.is_path_delay name.now }
+{
+    matches!(
+        library.predeclared(name),
+        Some(Predeclared::Procedure(Procedure::PathDelay(_)))
+    )
+}
+
+/// Puts the limits of a concurrent statement at the end.
+fn put_of_concurrent(
+    limits: &mut Vec<PassedLimit>,
+    library: &LibraryNames<'_>,
+    conc: &Conc,
+) -> Result<(), AllocError>
+    ensures { OnOk result (limits.new.items ≡ limits.old.items ++ spec.limits_of_concurrent conc.now) }
+{
+    match call(conc) {
+        Some(name) => put_of_call(limits, library, name),
+        None => Ok(()),
+    }
+}
+
+/// Puts the limits of a statement of a process at the end.
+fn put_of_sequential(
+    limits: &mut Vec<PassedLimit>,
+    library: &LibraryNames<'_>,
+    stmt: &Stmt,
+) -> Result<(), AllocError>
+    ensures { OnOk result (limits.new.items ≡ limits.old.items ++ spec.limits_of_sequential stmt.now) }
+{
+    match stmt {
+        Stmt::Call(_, name) => put_of_call(limits, library, name),
+        _ => Ok(()),
+    }
+}
+
+/// Puts the limits of a call at the end.
+fn put_of_call(
+    limits: &mut Vec<PassedLimit>,
+    library: &LibraryNames<'_>,
+    name: &Reference,
+) -> Result<(), AllocError>
+    ensures { OnOk result (limits.new.items ≡ limits.old.items ++ spec.limits_of_call name.now) }
+{
+    match call_of(name) {
+        Some(call) if is_path_delay(library, call.identifier.name.as_slice()) => {
+            put_of_actuals(limits, call.items)
+        }
+        _ => Ok(()),
+    }
+}
+
+/// Whether what stands before `=>` is the formal Paths.
+fn is_paths(formal: &Choice) -> bool
+    ensures { result ≡ spec.is_paths formal.now }
+{
+    match formal {
+        Choice::Value(value) => match identifier_of(value) {
+            Some(identifier) => identifier.name.as_slice() == b"paths".as_slice(),
+            None => false,
+        },
+        Choice::Range(_) => false,
+    }
+}
+
+/// Puts the limits of the actuals of a call of a path delay at the end.
+fn put_of_actuals(limits: &mut Vec<PassedLimit>, items: &[Item]) -> Result<(), AllocError>
+    ensures { OnOk result (limits.new.items ≡ limits.old.items ++ flat_map spec.limits_of_actual items.now) }
+{
+    for item in items {
+        put_of_actual(limits, item)?;
+    }
+    Ok(())
+}
+
+/// Puts the limit of an actual at the end, if it is one of Paths.
+fn put_of_actual(limits: &mut Vec<PassedLimit>, item: &Item) -> Result<(), AllocError>
+    ensures { OnOk result (limits.new.items ≡ limits.old.items ++ spec.limits_of_actual item.now) }
+{
+    match formal(item) {
+        Some(choice) if is_paths(choice) => put_of_paths(limits, listed_in(item)),
+        _ => Ok(()),
+    }
+}
+
+/// Puts the limit of paths at the end: at the first that is one too many.
+fn put_of_paths(limits: &mut Vec<PassedLimit>, paths: &[Item]) -> Result<(), AllocError>
+    ensures { OnOk result (limits.new.items ≡ limits.old.items ++ spec.limits_of_paths paths.now) }
+{
+    put_at(limits, paths.get(MOST_PATHS))
+}
+
+/// Puts the limit of paths at the end, at the one too many, if there is one.
+fn put_at(limits: &mut Vec<PassedLimit>, path: Option<&Item>) -> Result<(), AllocError>
+    ensures { OnOk result (limits.new.items ≡ limits.old.items ++ spec.limits_at (option_copied path.entry)) }
+{
+    match path {
+        Some(path) => put_if(limits, true, CellLimit::Paths, path.place()),
+        None => Ok(()),
+    }
+}
+
+// ---- times
+
+/// Whether the number of a time literal is worth too much. A number before another identifier than a unit is no time.
+fn is_too_long(physical: &Physical) -> bool
+    ensures { result ≡ spec.is_too_long physical.now }
+{
+    match UnitOfTime::named(physical.unit.name.as_slice()) {
+        Some(unit) => unit.literal_time(physical.number.as_slice()).is_none(),
+        None => false,
+    }
+}
+
+/// Whether a node is a time literal that is worth too much.
+pub fn is_too_long_node(node: Node<'_>) -> bool
+    ensures { result ≡ spec.is_too_long_node (seen node.entry) }
+{
+    match node {
+        Node::Expression(Expr::Physical(physical)) => is_too_long(physical.get()),
+        _ => false,
+    }
+}
