@@ -11,8 +11,10 @@ use Rattle.vital_names.specs.Meanings as meanings
 use Rattle.vital_nodes.specs.declared.decl.Object.{Object}
 use Rattle.vital_nodes.specs.declared.expr.Expr.{Expr}
 use Rattle.vital_nodes.specs.declared.expr.Item.{Item}
+use Rattle.vital_walk.specs.Items.{listed_items, positional_value}
 use Rattle.vital_walk.specs.Names.{identifier_of}
-use Rattle.vital_declarations.specs.Constants.{character, columns_of, is_constant_class, listed_items, positional_value, row_items}
+use Rattle.vital_walk.specs.Objects.{is_constant}
+use Rattle.vital_declarations.specs.Constants.{character, columns_of, row_items}
 use Rattle.vital_declarations.specs.Numbers.{Range, length_of}
 use Rattle.vital_declarations.specs.Types.{DeclaredType, Plain, Vector, Table, Other, type_of}
 use Rattle.vital_declaration_clauses.specs.Scopes.{Scope, meaning_from}
@@ -25,7 +27,7 @@ is_symbol_type _ = false
 
 -- An object is a constant of VitalTableSymbolType.
 abbrev pub is_symbol : Object → Bool
-is_symbol o = is_constant_class o.«class» && is_symbol_type (type_of o.parts.subtype)
+is_symbol o = is_constant o && is_symbol_type (type_of o.parts.subtype)
 
 abbrev pub is_symbol_declared : Declared → Bool
 is_symbol_declared (declared.Generic i) = false

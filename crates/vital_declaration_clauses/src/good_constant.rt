@@ -10,19 +10,16 @@ ghost use Rattle.vital_names.specs.Meanings as meanings;
 ghost use Rattle.vital_walk.specs.Bounds.{shown};
 
 use crate::scope::Scope;
-use vital_declarations::{
-    DeclaredType, character, columns_of, has_length, listed_items, positional_value, row_items,
-    type_of,
-};
+use vital_declarations::{DeclaredType, character, columns_of, has_length, row_items, type_of};
 use vital_names::{Declared, LibraryNames, Meaning, TypeName};
-use vital_nodes::{Expr, Item, Object, ObjectClass};
-use vital_walk::{LiteralBounds, identifier_of};
+use vital_nodes::{Expr, Item, Object};
+use vital_walk::{LiteralBounds, identifier_of, is_constant, listed_items, positional_value};
 
 /// Whether an object is a constant of VitalTableSymbolType.
 fn is_symbol(library: &LibraryNames<'_>, object: &Object) -> bool
     ensures { result ≡ spec.is_symbol object.now }
 {
-    object.class == ObjectClass::Constant
+    is_constant(object)
         && matches!(
             type_of(library, &object.parts.get().subtype),
             DeclaredType::Plain(TypeName::TableSymbol)

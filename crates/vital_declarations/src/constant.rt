@@ -4,27 +4,8 @@ ghost use Rattle.std.specs.Prelude.{◌≡◌};
 ghost use Rattle.std.specs.Option.{option_copied};
 ghost use Rattle.vital_declarations.specs.Constants as spec;
 
-use vital_nodes::{Choice, Expr, Item};
-
-/// The value of an item by position.
-pub fn positional_value(item: &Item) -> Option<&Expr>
-    ensures { option_copied result ≡ spec.positional_value item.now }
-{
-    match item {
-        Item::Positional(Choice::Value(value)) => Some(value),
-        _ => None,
-    }
-}
-
-/// The items of a list in parentheses.
-pub fn listed_items(value: &Expr) -> Option<&[Item]>
-    ensures { option_copied result ≡ spec.listed_items value.now }
-{
-    match value {
-        Expr::Parenthesized(_, items) => Some(items.as_slice()),
-        _ => None,
-    }
-}
+use vital_nodes::{Expr, Item};
+use vital_walk::{listed_items, positional_value};
 
 /// The byte of a character literal.
 pub fn character(value: &Expr) -> Option<u8>

@@ -1,6 +1,5 @@
 mod Rows
 pub mod NameLemmas
-pub mod Steps
 pub mod FaultLemmas
 pub mod NumberedLemmas
 pub mod LimitLemmas

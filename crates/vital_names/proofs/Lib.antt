@@ -1,4 +1,3 @@
-pub mod Steps
 pub mod FirstLemmas
 pub mod ConstantLemmas
 pub mod ViewpointLemmas

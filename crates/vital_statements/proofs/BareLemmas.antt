@@ -9,22 +9,22 @@ use Rattle.vital_nodes.specs.declared.identifier.Identifier.{Identifier}
 use Rattle.vital_nodes.specs.Layers.{ChoiceLayer, ExprLayer, ItemLayer}
 use Rattle.vital_nodes.specs.Nodes.{Node, Expression, Item, items, parts_in_choice, parts_in_expr, parts_in_item, parts_of}
 use Rattle.vital_nodes.specs.Walk.{folded, nodes_of, nodes_of_all}
-use Rattle.vital_walk.specs.Items.{value_in_choice}
+use Rattle.vital_walk.specs.Items.{positional_in, positional_value, value_in_choice}
 use Rattle.vital_walk.specs.Names.{identifier_of}
-use Rattle.vital_statements.specs.Parentheses.{bare_identifier, bare_or, bare_step, by_position, by_position_in, first_of, inside, inside_in, only_by_position}
+use Rattle.vital_statements.specs.Parentheses.{bare_identifier, bare_or, bare_step, first_of, inside, inside_in, only_by_position}
 
 -- ---- the parts of parentheses
 choice-is : (c : ChoiceLayer) (inner : Expr) → value_in_choice c ≡ Some inner → parts_in_choice c ≡ Expression inner ∷ []
 choice-is (Choice-F.Choice::Value e) inner h = let same : e ≡ inner = cc in ap (λ x. Expression x ∷ []) same
 choice-is (Choice-F.Range r) inner h = absurd (cc)
 
-item-is : (i : ItemLayer) (inner : Expr) → by_position_in i ≡ Some inner → parts_in_item i ≡ Expression inner ∷ []
+item-is : (i : ItemLayer) (inner : Expr) → positional_in i ≡ Some inner → parts_in_item i ≡ Expression inner ∷ []
 item-is (Item-F.Others place e) inner h = absurd (cc)
 item-is (Item-F.Item::Open place) inner h = absurd (cc)
 item-is (Item-F.Positional c) inner h = choice-is (out-Choice c) inner h
 item-is (Item-F.Named a) inner h = absurd (cc)
 
-only-is : (is : List Item') (inner : Expr) → only_by_position is ≡ Some inner → (i : Item') × (is ≡ i ∷ []) × (by_position i ≡ Some inner)
+only-is : (is : List Item') (inner : Expr) → only_by_position is ≡ Some inner → (i : Item') × (is ≡ i ∷ []) × (positional_value i ≡ Some inner)
 only-is [] inner h = absurd (cc)
 only-is (i ∷ []) inner h = (i, refl, h)
 only-is (i ∷ j ∷ others) inner h = absurd (cc)
@@ -41,7 +41,7 @@ expr-is (Expr-F.Character place character) inner h = absurd (cc)
 expr-is (Expr-F.StringLiteral place text) inner h = absurd (cc)
 expr-is (Expr-F.Reference name) inner h = absurd (cc)
 expr-is (Expr-F.Parenthesized place is) inner h =
-    let p : (i : Item') × (is ≡ i ∷ []) × (by_position i ≡ Some inner) = only-is is inner h in
+    let p : (i : Item') × (is ≡ i ∷ []) × (positional_value i ≡ Some inner) = only-is is inner h in
     (p.0, ap items p.1, item-is (out-Item p.0) inner p.2)
 
 parts-are : (e inner : Expr) → inside e ≡ Some inner → (i : Item') × (parts_of (Expression e) ≡ Item i ∷ []) × (parts_of (Item i) ≡ Expression inner ∷ [])

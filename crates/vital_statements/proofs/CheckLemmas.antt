@@ -10,7 +10,7 @@ use Rattle.vital_nodes.specs.declared.stmt.Stmt.{Stmt}
 use Rattle.vital_nodes.specs.Places.{place_of_stmt}
 use Rattle.vital_names.specs.Sites.{Cell}
 use Rattle.vital_statements.specs.Clauses.{is_check_call, others_than_checks}
-use Rattle.vital_statements.proofs.Steps.{flat_map-take}
+use Rattle.vital_walk.proofs.Lists.{flat_map-one}
 
 pub others-append : (cell : Cell) (p : Process) (xs ys : List Stmt) → others_than_checks cell p (xs ++ ys) ≡ others_than_checks cell p xs ++ others_than_checks cell p ys
 others-append cell p xs ys =
@@ -20,5 +20,5 @@ others-append cell p xs ys =
 pub others-take : (cell : Cell) (p : Process) (bs : List Branch) (i : ℕ) (b : Branch) → i < length bs → b ≡ get_or bs i b
     → others_than_checks cell p (flat_map (λ b. b.statements) (take (i + 1) bs)) ≡ others_than_checks cell p (flat_map (λ b. b.statements) (take i bs)) ++ others_than_checks cell p b.statements
 others-take cell p bs i b within is =
-    ap (others_than_checks cell p) (flat_map-take (λ b. b.statements) bs i b within is)
+    ap (others_than_checks cell p) (flat_map-one (λ b. b.statements) bs i b within is)
     ∙ others-append cell p (flat_map (λ b. b.statements) (take i bs)) b.statements

@@ -1,30 +1,20 @@
 -- Identifiers in parentheses.
 use Rattle.std.specs.Prelude.{List, [], ◌∷◌, Option, Some, None}
-use Rattle.vital_nodes.specs.declared.expr.Actual.TheOpen.{Expr-F, Item-F}
-use Rattle.vital_nodes.specs.declared.expr.Actual.TheViews.{out-Choice, out-Expr, out-Item}
+use Rattle.vital_nodes.specs.declared.expr.Actual.TheOpen.{Expr-F}
+use Rattle.vital_nodes.specs.declared.expr.Actual.TheViews.{out-Expr}
 use Rattle.vital_nodes.specs.declared.expr.Expr.{Expr}
 use Rattle.vital_nodes.specs.declared.expr.Item.{Item as Item'}
 use Rattle.vital_nodes.specs.declared.identifier.Identifier.{Identifier}
-use Rattle.vital_nodes.specs.Layers.{ExprLayer, ItemLayer}
+use Rattle.vital_nodes.specs.Layers.{ExprLayer}
 use Rattle.vital_nodes.specs.Nodes.{Node, Declaration, Interface, Concurrent, Sequential, Expression, Item, Name}
 use Rattle.vital_nodes.specs.Walk.{folded}
-use Rattle.vital_walk.specs.Items.{value_in_choice}
+use Rattle.vital_walk.specs.Items.{positional_value}
 use Rattle.vital_walk.specs.Names.{identifier_of}
-
--- The expression that an item is by position.
-abbrev pub by_position_in : ItemLayer → Option Expr
-by_position_in (Item-F.Others place e) = None
-by_position_in (Item-F.Item::Open place) = None
-by_position_in (Item-F.Positional c) = value_in_choice (out-Choice c)
-by_position_in (Item-F.Named a) = None
-
-abbrev pub by_position : Item' → Option Expr
-by_position i = by_position_in (out-Item i)
 
 -- The only item, if it is an expression by position.
 abbrev pub only_by_position : List Item' → Option Expr
 only_by_position [] = None
-only_by_position (i ∷ []) = by_position i
+only_by_position (i ∷ []) = positional_value i
 only_by_position (i ∷ j ∷ others) = None
 
 abbrev pub inside_in : ExprLayer → Option Expr

@@ -4,18 +4,8 @@ ghost use Rattle.std.specs.Prelude.{◌≡◌};
 ghost use Rattle.std.specs.Option.{option_copied};
 ghost use Rattle.vital_statements.specs.Parentheses as spec;
 
-use vital_nodes::{Choice, Expr, Identifier, Item, folded_upwards, walked_in_preorder};
-use vital_walk::identifier_of;
-
-/// The expression that an item is by position.
-pub fn by_position(item: &Item) -> Option<&Expr>
-    ensures { option_copied result ≡ spec.by_position item.now }
-{
-    match item {
-        Item::Positional(Choice::Value(value)) => Some(value),
-        _ => None,
-    }
-}
+use vital_nodes::{Expr, Identifier, Item, folded_upwards, walked_in_preorder};
+use vital_walk::{identifier_of, positional_value};
 
 /// What stands inside of parentheses, if that is one expression by position.
 fn inside(expr: &Expr) -> Option<&Expr>
@@ -32,7 +22,7 @@ fn only_by_position(items: &[Item]) -> Option<&Expr>
     ensures { option_copied result ≡ spec.only_by_position items.now }
 {
     match items {
-        [item] => by_position(item),
+        [item] => positional_value(item),
         _ => None,
     }
 }

@@ -1,3 +1,3 @@
 pub mod Turns
 pub mod Values
-pub mod Steps
+pub mod Lists

@@ -1,10 +1,30 @@
-//! The parts of items.
+//! Items and their parts.
 
 ghost use Rattle.std.specs.Prelude.{◌≡◌};
 ghost use Rattle.std.specs.Option.{option_copied};
 ghost use Rattle.vital_walk.specs.Items as spec;
 
 use vital_nodes::{Actual, Choice, Expr, Item};
+
+/// The value of an item by position.
+pub fn positional_value(item: &Item) -> Option<&Expr>
+    ensures { option_copied result ≡ spec.positional_value item.now }
+{
+    match item {
+        Item::Positional(Choice::Value(value)) => Some(value),
+        _ => None,
+    }
+}
+
+/// The items of a list in parentheses.
+pub fn listed_items(value: &Expr) -> Option<&[Item]>
+    ensures { option_copied result ≡ spec.listed_items value.now }
+{
+    match value {
+        Expr::Parenthesized(_, items) => Some(items.as_slice()),
+        _ => None,
+    }
+}
 
 /// The formal or the choice before `=>`. There is none before `others`.
 pub fn formal(item: &Item) -> Option<&Choice>

@@ -1,7 +1,7 @@
 use Rattle.std.proofs.Common.{◌++◌, take, sym, ◌∙◌, ap, append_assoc, arith}
 use Rattle.std.specs.List.{flat_map}
 use Rattle.vital_declaration_clauses.specs.Clauses.{redeclared_in}
-use Rattle.vital_declaration_clauses.proofs.Steps.{flat_map-take}
+use Rattle.vital_walk.proofs.Lists.{flat_map-one}
 use Rattle.vital_declaration_clauses.proofs.clauses.clause_17.Goals as goal
 
 pub loop-region-preserved : goal.loop-region-preserved
@@ -12,4 +12,4 @@ loop-region-preserved c =
     ∙ ap (λ ps. c.loop-region.places.items ++ ps) (c.deref.ensures.value ∙ c.in_ok-more.ensures)
     ∙ ap (λ ps. ps ++ of_region c.region-item.result) c.loop-region.invariant
     ∙ append_assoc c.in_ok-places.places.items (flat_map of_region (take i c.args.regions.now)) (of_region c.region-item.result)
-    ∙ ap (λ ps. c.in_ok-places.places.items ++ ps) (sym (flat_map-take of_region c.args.regions.now i c.region-item.result (omega arith) c.region-item.is))
+    ∙ ap (λ ps. c.in_ok-places.places.items ++ ps) (sym (flat_map-one of_region c.args.regions.now i c.region-item.result (omega arith) c.region-item.is))

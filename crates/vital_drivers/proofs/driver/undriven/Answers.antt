@@ -7,7 +7,8 @@ use Rattle.vital_drivers.specs.Kept.{has_name}
 use Rattle.vital_statements.specs.Lists.{place_if}
 use Rattle.vital_drivers.specs.Named.{is_driven_mode}
 use Rattle.vital_drivers.specs.PathDelays.{lent}
-use Rattle.vital_drivers.proofs.Steps.{any-more, each-take, turn}
+use Rattle.vital_walk.proofs.Lists.{any-one, turn}
+use Rattle.vital_statements.proofs.Steps.{each-take}
 use Rattle.vital_drivers.proofs.driver.undriven.Goals as goal
 
 pub loop-port-preserved : goal.loop-port-preserved
@@ -28,5 +29,5 @@ loop-port-preserved c =
           c.in_ok-is_meant.ensures.names q
           ∙ ap (λ b. b || has_name c.loop-port.earlier q) (ap (λ bs. bytes_eq bs q) c.as_slice-name.ensures)
           ∙ ap (λ b. bytes_eq name q || b) (c.loop-port.invariant.earlier q)
-          ∙ sym (any-more (λ i. bytes_eq i.identifier.name q) c.args.ports.now c.loop-port.port-index x (omega arith) c.port-item.is);
+          ∙ sym (any-one (λ i. bytes_eq i.identifier.name q) c.args.ports.now c.loop-port.port-index x (omega arith) c.port-item.is);
     }

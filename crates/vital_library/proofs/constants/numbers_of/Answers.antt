@@ -7,7 +7,7 @@ use Rattle.std.specs.Option.{option_or}
 use Rattle.std.specs.List.{position_from}
 use Rattle.vital_library.specs.Constants.{has_name, lent}
 use Rattle.vital_library.proofs.NumberLemmas.{position_from-append}
-use Rattle.vital_library.proofs.Steps.{map-take-more}
+use Rattle.vital_walk.proofs.Lists.{map-take}
 use Rattle.vital_library.proofs.constants.numbers_of.Goals as goal
 
 pub loop-number-preserved : goal.loop-number-preserved
@@ -20,4 +20,4 @@ loop-number-preserved c = λ name.
     ∙ ap (λ o. option_or o (position_from (has_name name) number (c.index-constants-number.result.now ∷ []))) (c.loop-number.invariant name)
     ∙ ap (λ n. option_or (position_from (has_name name) 0 (lent front)) (position_from (has_name name) n (c.index-constants-number.result.now ∷ []))) here
     ∙ sym (position_from-append (has_name name) 0 (lent front) (c.index-constants-number.result.now ∷ []))
-    ∙ ap (position_from (has_name name) 0) (sym (map-take-more (λ object. object.now) c.args.constants.now number c.index-constants-number.result (omega arith) c.index-constants-number.is))
+    ∙ ap (position_from (has_name name) 0) (sym (map-take (λ object. object.now) c.args.constants.now number c.index-constants-number.result (omega arith) c.index-constants-number.is))

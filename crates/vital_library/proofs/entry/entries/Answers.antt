@@ -4,7 +4,7 @@ use Rattle.std.proofs.lemmas.List.{take_all}
 use Rattle.vital_library.specs.Entries.{entities_with_positions, with_group}
 use Rattle.vital_library.specs.Positions.{seen}
 use Rattle.vital_library.proofs.EntryLemmas.{entities-push, entries-all}
-use Rattle.vital_library.proofs.Steps.{map-take-more}
+use Rattle.vital_walk.proofs.Lists.{map-take}
 use Rattle.vital_library.proofs.entry.entries.Goals as goal
 
 pub loop-at-preserved : goal.loop-at-preserved
@@ -14,7 +14,7 @@ loop-at-preserved c =
     c.in_ok-put_entity.ensures
     ∙ ap (λ es. es ++ map (with_group groups) (entities_with_positions (u ∷ []))) c.loop-at.invariant
     ∙ sym (entities-push groups (map seen (take c.loop-at.at-index c.args.units.now)) u)
-    ∙ ap (λ units. map (with_group groups) (entities_with_positions units)) (sym (map-take-more seen c.args.units.now c.loop-at.at-index c.at-item.result (omega arith) c.at-item.is))
+    ∙ ap (λ units. map (with_group groups) (entities_with_positions units)) (sym (map-take seen c.args.units.now c.loop-at.at-index c.at-item.result (omega arith) c.at-item.is))
 
 pub returns : goal.returns
 returns c =

@@ -4,7 +4,7 @@ use Rattle.std.specs.Prelude.{◌||◌, [], ◌∷◌}
 use Rattle.vital_library.specs.Faults.{has_entity}
 use Rattle.vital_library.specs.Positions.{units_in}
 use Rattle.vital_library.proofs.FaultLemmas.{has_entity-push}
-use Rattle.vital_library.proofs.Steps.{map-take-more}
+use Rattle.vital_walk.proofs.Lists.{map-take}
 use Rattle.vital_library.proofs.faults.entity_names.Goals as goal
 
 pub loop-at-preserved : goal.loop-at-preserved
@@ -14,4 +14,4 @@ loop-at-preserved c = λ name.
     c.in_ok-put_entity.ensures name
     ∙ ap (λ b. has_entity (unit ∷ []) name || b) (c.loop-at.invariant name)
     ∙ sym (has_entity-push before unit name)
-    ∙ ap (λ units. has_entity units name) (sym (map-take-more (λ at. at.unit.now) c.args.units.now c.loop-at.at-index c.at-item.result (omega arith) c.at-item.is))
+    ∙ ap (λ units. has_entity units name) (sym (map-take (λ at. at.unit.now) c.args.units.now c.loop-at.at-index c.at-item.result (omega arith) c.at-item.is))

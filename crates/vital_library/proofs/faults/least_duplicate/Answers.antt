@@ -5,7 +5,7 @@ use Rattle.std.specs.List.{list_any}
 use Rattle.vital_library.specs.Faults.{duplicate, duplicates, least_of, shares_name, sooner}
 use Rattle.vital_library.specs.Positions.{units_in}
 use Rattle.vital_library.proofs.FaultLemmas.{shares-push, shared-where_old, shared-where_new, least-push_duplicate, least-push_new}
-use Rattle.vital_library.proofs.Steps.{map-take-more}
+use Rattle.vital_walk.proofs.Lists.{map-take}
 use Rattle.vital_library.proofs.faults.least_duplicate.Goals as goal
 use Rattle.vital_library.proofs.faults.least_duplicate.Goals.{then-not-branch, else-not-branch}
 
@@ -13,7 +13,7 @@ pub loop-at-preserved : goal.loop-at-preserved
 loop-at-preserved c =
     let unit = c.at-item.result.unit.now in
     let before = units_in (take c.loop-at.at-index c.args.units.now) in
-    let more = map-take-more (λ at. at.unit.now) c.args.units.now c.loop-at.at-index c.at-item.result (omega arith) c.at-item.is in
+    let more = map-take (λ at. at.unit.now) c.args.units.now c.loop-at.at-index c.at-item.result (omega arith) c.at-item.is in
     record {
       names = λ w.
           c.in_ok-declare.ensures.names w

@@ -5,7 +5,7 @@ use Rattle.vital_library.specs.Faults.{no_entity, sooner}
 use Rattle.vital_library.specs.Names.{without_name}
 use Rattle.vital_library.specs.Positions.{units_in}
 use Rattle.vital_library.proofs.FaultLemmas.{fold-push_without}
-use Rattle.vital_library.proofs.Steps.{map-take-more}
+use Rattle.vital_walk.proofs.Lists.{map-take}
 use Rattle.vital_library.proofs.faults.least_without_entity.Goals as goal
 
 pub loop-at-preserved : goal.loop-at-preserved
@@ -16,4 +16,4 @@ loop-at-preserved c =
     c.sooner_without_entity-least.ensures
     ∙ ap (λ least. fold sooner least (map no_entity (without_name names (unit ∷ [])))) c.loop-at.invariant
     ∙ sym (fold-push_without c.args.least names before unit)
-    ∙ ap (λ units. fold sooner c.args.least (map no_entity (without_name names units))) (sym (map-take-more (λ at. at.unit.now) c.args.units.now c.loop-at.at-index c.at-item.result (omega arith) c.at-item.is))
+    ∙ ap (λ units. fold sooner c.args.least (map no_entity (without_name names units))) (sym (map-take (λ at. at.unit.now) c.args.units.now c.loop-at.at-index c.at-item.result (omega arith) c.at-item.is))

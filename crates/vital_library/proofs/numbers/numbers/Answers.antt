@@ -5,14 +5,14 @@ use Rattle.vital_library.specs.Numbers.{is_named}
 use Rattle.vital_library.specs.Positions.{units_in}
 use Rattle.vital_library.specs.Units.{entities_among}
 use Rattle.vital_library.proofs.NumberLemmas.{entities-more, number-more, one-entity}
-use Rattle.vital_library.proofs.Steps.{map-take-more}
+use Rattle.vital_walk.proofs.Lists.{map-take}
 use Rattle.vital_library.proofs.numbers.numbers.Goals as goal
 
 pub loop-at-preserved : goal.loop-at-preserved
 loop-at-preserved c =
     let unit = c.at-item.result.unit.now in
     let before = units_in (take c.loop-at.at-index c.args.units.now) in
-    let more = map-take-more (λ at. at.unit.now) c.args.units.now c.loop-at.at-index c.at-item.result (omega arith) c.at-item.is in
+    let more = map-take (λ at. at.unit.now) c.args.units.now c.loop-at.at-index c.at-item.result (omega arith) c.at-item.is in
     record {
       numbers = λ name.
           number-more name before unit c.loop-at.count _ _ c.loop-at.invariant.count (c.loop-at.invariant.numbers name) (c.in_ok-count.ensures.numbers name)

@@ -1,9 +1,9 @@
 use Rattle.std.proofs.Common.{refl, arith}
 use Rattle.vital_statements.specs.Clauses.{places_10_in}
-use Rattle.vital_statements.proofs.Steps.{flat_map-seen, turn}
+use Rattle.vital_walk.proofs.Lists.{flat_map-seen, turn}
 use Rattle.vital_statements.proofs.section.clause_10.Goals as goal
 
 pub loop-conc-preserved : goal.loop-conc-preserved
 loop-conc-preserved c =
     turn _ _ _ _ _ _ c.in_ok-put_places.ensures c.loop-conc.invariant refl
-    (flat_map-seen (places_10_in c.args.names.now) (λ b. b.now) _ c.loop-conc.conc-index c.conc-item.result (omega arith) c.conc-item.is)
+    (flat_map-seen (λ b. b.now) (places_10_in c.args.names.now) _ c.loop-conc.conc-index c.conc-item.result (omega arith) c.conc-item.is)
