@@ -12,4 +12,4 @@ pub use actual_form::ActualForm;
 pub use call::{Call, call_of};
 pub use callee_formals::{formals_of_function, formals_of_procedure, input_count};
 pub use formal::{Formal, Formals};
-pub use matching::{actual_of, form_of, has_wrong_formals};
+pub use matching::{actual_of, form_of, formal_name, has_wrong_formals};

@@ -122,9 +122,9 @@ fn name_at<'a>(formals: &'a [Formal], position: usize, item: &'a Item) -> Option
     }
 }
 
-/// The name of the formal that the item at a position is for, if it is for one.
+/// The name of the formal that the item at a position of a call, from 0, is for, if it is for one.
 #[tactic(auto, unfolding(crate::specs::Matching::formal_name))]
-fn formal_name(formals: Formals, position: usize, item: &Item) -> Option<&[u8]>
+pub fn formal_name(formals: Formals, position: usize, item: &Item) -> Option<&[u8]>
     ensures { option_copied result ≡ spec.formal_name (lent formals) position item.now }
 {
     match formals {
