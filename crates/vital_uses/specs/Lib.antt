@@ -1,0 +1,11 @@
+pub mod Statements
+pub mod Sited
+pub mod Parts
+pub mod Nodes
+pub mod Apart
+pub mod Asked
+pub mod Undeclared
+pub mod NamesAt
+pub mod Unread
+pub mod Reads
+pub mod Kept
