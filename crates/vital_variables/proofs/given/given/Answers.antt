@@ -1,0 +1,10 @@
+use Rattle.std.proofs.Common.{arith, refl}
+use Rattle.std.specs.List.{flat_map}
+use Rattle.vital_variables.specs.Given.{given}
+use Rattle.vital_walk.proofs.Lists.{flat_map-seen, turn}
+use Rattle.vital_variables.proofs.given.given.Goals as goal
+
+pub loop-stmt-preserved : goal.loop-stmt-preserved
+loop-stmt-preserved c =
+    turn _ _ _ _ _ _ c.in_ok-put_given_in.ensures c.loop-stmt.invariant refl
+    (flat_map-seen (λ y. y.now) (given c.args.formals c.args.names.now c.args.process.now) c.args.statements.now c.loop-stmt.stmt-index c.stmt-item.result (omega arith) c.stmt-item.is)

@@ -1,0 +1,12 @@
+use Rattle.std.proofs.Common.{arith, refl}
+use Rattle.std.specs.List.{flat_map}
+use Rattle.vital_nodes.specs.declared.stmt.Process.{Process}
+use Rattle.vital_names.specs.Sites.{Cell}
+use Rattle.vital_variables.specs.SecondUses.{used_again}
+use Rattle.vital_walk.proofs.Lists.{flat_map-one, turn-behind}
+use Rattle.vital_variables.proofs.second_uses.put_all_used_again.Goals as goal
+
+pub loop-process-preserved : goal.loop-process-preserved
+loop-process-preserved c =
+    turn-behind _ _ _ _ _ _ _ c.in_ok-put_used_again.ensures c.loop-process.invariant refl
+    (flat_map-one (λ (u : Cell × Process). used_again u.0 u.1) c.args.processes.now c.loop-process.process-index c.process-item.result (omega arith) c.process-item.is)
