@@ -2,3 +2,5 @@ pub mod Passed
 pub mod Counts
 pub mod NodeLimits
 pub mod TextLimits
+pub mod ConstantLimits
+pub mod CellLimits

@@ -20,8 +20,6 @@ use Rattle.vital_names.specs.Words.{predeclared}
 use Rattle.vital_nodes.specs.declared.decl.Decl.{Decl}
 use Rattle.vital_nodes.specs.declared.decl.Decl.TheVariants as decl
 use Rattle.vital_nodes.specs.declared.decl.Object.{Object}
-use Rattle.vital_nodes.specs.declared.decl.ObjectClass.{ObjectClass}
-use Rattle.vital_nodes.specs.declared.decl.ObjectClass.TheVariants as class
 use Rattle.vital_nodes.specs.declared.expr.Actual.TheOpen.{Choice-F, Expr-F}
 use Rattle.vital_nodes.specs.declared.expr.Actual.TheViews.{out-Choice, out-Expr}
 use Rattle.vital_nodes.specs.declared.expr.Choice.{Choice}
@@ -39,6 +37,7 @@ use Rattle.vital_timing.specs.TimeLiterals.{literal_time, unit_named}
 use Rattle.vital_walk.specs.Calls.{call}
 use Rattle.vital_walk.specs.Items.{formal}
 use Rattle.vital_walk.specs.Names.{identifier_of}
+use Rattle.vital_walk.specs.Objects.{is_constant}
 
 abbrev pub if_passed : Bool → CellLimit → Place → List PassedLimit
 if_passed is_passed limit place = if is_passed then record { place = place; limit = limit } ∷ [] else []
@@ -54,27 +53,30 @@ is_table_name other = false
 abbrev pub is_table_type : Reference → Bool
 is_table_type name = is_table_name (type_named name)
 
-abbrev pub is_constant : ObjectClass → Bool
-is_constant class.Constant = true
-is_constant class.Signal = false
-is_constant class.Variable = false
-
+-- An object is a constant of a type of tables.
 abbrev pub is_table : Object → Bool
-is_table o = is_constant o.«class» && is_table_type o.parts.subtype.name
+is_table o = is_constant o && is_table_type o.parts.subtype.name
 
--- The items of its value.
-abbrev pub rows_of : Object → List Item'
-rows_of o = option_map_or listed o.parts.value []
+-- The items of its value, if it is one.
+abbrev pub items_of : Object → List Item'
+items_of o = option_map_or listed o.parts.value []
+
+abbrev pub table_rows : Object → List Item'
+table_rows o = if is_table o then items_of o else []
 
 -- A table has at most 128 rows, and its longest row at most 32 items.
-abbrev pub has_too_many_rows : Object → Bool
-has_too_many_rows o = is_table o && nat_lt 128 (length (rows_of o))
+abbrev pub are_too_many : List Item' → Bool
+are_too_many rows = nat_lt 128 (length rows)
 
-abbrev pub has_too_many_columns : Object → Bool
-has_too_many_columns o = is_table o && nat_lt 32 (longest (rows_of o))
+abbrev pub are_too_long : List Item' → Bool
+are_too_long rows = nat_lt 32 (longest rows)
+
+-- The limits of rows, which stand where their table is declared.
+abbrev pub limits_of_rows : Place → List Item' → List PassedLimit
+limits_of_rows place rows = if_passed (are_too_many rows) Rows place ++ if_passed (are_too_long rows) Columns place
 
 abbrev pub limits_of_object : Object → List PassedLimit
-limits_of_object o = if_passed (has_too_many_rows o) Rows o.identifier.place ++ if_passed (has_too_many_columns o) Columns o.identifier.place
+limits_of_object o = limits_of_rows o.identifier.place (table_rows o)
 
 abbrev pub limits_of_declaration : Decl → List PassedLimit
 limits_of_declaration (decl.Attribute identifier type_mark) = []

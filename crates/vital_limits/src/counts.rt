@@ -5,15 +5,15 @@ ghost use Rattle.std.specs.Option.{option_copied};
 ghost use Rattle.vital_limits.specs.Counts as spec;
 
 use vital_nodes::{Expr, Item};
-use vital_walk::actual;
+use vital_walk::{actual, listed_items};
 
 /// The items of a value in parentheses.
 pub fn listed(value: &Expr) -> &[Item]
     ensures { result.now ≡ spec.listed value.now }
 {
-    match value {
-        Expr::Parenthesized(_, items) => items.as_slice(),
-        _ => &[],
+    match listed_items(value) {
+        Some(items) => items,
+        None => &[],
     }
 }
 
@@ -33,14 +33,7 @@ pub fn longest(rows: &[Item]) -> usize
 {
     let mut longest = 0;
     for row in rows {
-        longest = longer(longest, listed_in(row).len());
+        longest = longest.max(listed_in(row).len());
     }
     longest
-}
-
-/// The greater of two lengths.
-fn longer(a: usize, b: usize) -> usize
-    ensures { result ≡ spec.longer a b }
-{
-    if a < b { b } else { a }
 }

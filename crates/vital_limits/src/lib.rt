@@ -1,10 +1,14 @@
 //! The limits of one cell: how many ports, rows, columns and paths it has at most, and how long its times are.
 #![tactic(auto)]
 
+mod cell;
 mod counts;
 mod node_limits;
+mod packages;
 mod passed;
 mod text_limits;
 
+pub use cell::cell_limit;
+pub use packages::{ConstantLimits, constant_limits};
 pub use passed::{CellLimit, PassedLimit, earliest};
 pub use text_limits::own_limits;

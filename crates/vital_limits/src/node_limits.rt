@@ -12,9 +12,9 @@ use std::alloc::AllocError;
 use vital_base::Place;
 use vital_calls::call_of;
 use vital_names::{LibraryNames, Predeclared, Procedure, TypeName};
-use vital_nodes::{Choice, Conc, Decl, Expr, Item, Object, ObjectClass, Physical, Reference, Stmt};
+use vital_nodes::{Choice, Conc, Decl, Expr, Item, Object, Physical, Reference, Stmt};
 use vital_timing::UnitOfTime;
-use vital_walk::{HasPlace, Node, call, formal, identifier_of};
+use vital_walk::{HasPlace, Node, call, formal, identifier_of, is_constant};
 
 /// A table has at most so many rows.
 const MOST_ROWS: usize = 128;
@@ -76,7 +76,11 @@ fn put_of_declaration(
     ensures { OnOk result (limits.new.items ≡ limits.old.items ++ spec.limits_of_declaration decl.now) }
 {
     match decl {
-        Decl::Object(object) => put_of_object(limits, library, object),
+        Decl::Object(object) => put_of_rows(
+            limits,
+            object.identifier.place,
+            table_rows(library, object),
+        ),
         _ => Ok(()),
     }
 }
@@ -95,13 +99,12 @@ fn is_table_type(library: &LibraryNames<'_>, name: &Reference) -> bool
 fn is_table(library: &LibraryNames<'_>, object: &Object) -> bool
     ensures { result ≡ spec.is_table object.now }
 {
-    object.class == ObjectClass::Constant
-        && is_table_type(library, &object.parts.get().subtype.name)
+    is_constant(object) && is_table_type(library, &object.parts.get().subtype.name)
 }
 
-/// The rows of the value of a constant.
-fn rows_of(object: &Object) -> &[Item]
-    ensures { result.now ≡ spec.rows_of object.now }
+/// The items of the value of an object.
+fn items_of(object: &Object) -> &[Item]
+    ensures { result.now ≡ spec.items_of object.now }
 {
     match &object.parts.get().value {
         Some(value) => listed(value),
@@ -109,41 +112,37 @@ fn rows_of(object: &Object) -> &[Item]
     }
 }
 
-/// Whether an object is a table with too many rows.
-pub fn has_too_many_rows(library: &LibraryNames<'_>, object: &Object) -> bool
-    ensures { result ≡ spec.has_too_many_rows object.now }
+/// The rows of an object, if it is a table.
+pub fn table_rows<'a>(library: &LibraryNames<'_>, object: &'a Object) -> &'a [Item]
+    ensures { result.now ≡ spec.table_rows object.now }
 {
-    is_table(library, object) && MOST_ROWS < rows_of(object).len()
+    if is_table(library, object) {
+        items_of(object)
+    } else {
+        &[]
+    }
 }
 
-/// Whether an object is a table whose longest row has too many items.
-pub fn has_too_many_columns(library: &LibraryNames<'_>, object: &Object) -> bool
-    ensures { result ≡ spec.has_too_many_columns object.now }
+/// Whether there are too many rows.
+pub fn are_too_many(rows: &[Item]) -> bool
+    ensures { result ≡ spec.are_too_many rows.now }
 {
-    is_table(library, object) && MOST_COLUMNS < longest(rows_of(object))
+    MOST_ROWS < rows.len()
 }
 
-/// Puts the limits that an object passes as a table at the end.
-fn put_of_object(
-    limits: &mut Vec<PassedLimit>,
-    library: &LibraryNames<'_>,
-    object: &Object,
-) -> Result<(), AllocError>
-    ensures { OnOk result (limits.new.items ≡ limits.old.items ++ spec.limits_of_object object.now) }
+/// Whether the longest of rows has too many items.
+pub fn are_too_long(rows: &[Item]) -> bool
+    ensures { result ≡ spec.are_too_long rows.now }
 {
-    let place = object.identifier.place;
-    put_if(
-        limits,
-        has_too_many_rows(library, object),
-        CellLimit::Rows,
-        place,
-    )?;
-    put_if(
-        limits,
-        has_too_many_columns(library, object),
-        CellLimit::Columns,
-        place,
-    )
+    MOST_COLUMNS < longest(rows)
+}
+
+/// Puts the limits of the rows of a table at the end, where it is declared.
+fn put_of_rows(limits: &mut Vec<PassedLimit>, place: Place, rows: &[Item]) -> Result<(), AllocError>
+    ensures { OnOk result (limits.new.items ≡ limits.old.items ++ spec.limits_of_rows place rows.now) }
+{
+    put_if(limits, are_too_many(rows), CellLimit::Rows, place)?;
+    put_if(limits, are_too_long(rows), CellLimit::Columns, place)
 }
 
 // ---- paths
