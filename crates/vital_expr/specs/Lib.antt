@@ -1,0 +1,11 @@
+pub mod Outcomes
+pub mod Reading
+pub mod Levels
+pub mod Vectors
+pub mod Booleans
+pub mod Delays
+pub mod Texts
+pub mod Names
+pub mod Readings
+pub mod Steps
+pub mod Seen

@@ -1,0 +1,10 @@
+//! Sides of relations.
+
+use vital_operands::{BooleanExpr, LevelExpr};
+
+/// A side of a relation: a level or a truth value.
+#[derive(Debug, Drop)]
+pub enum Side {
+    Level(LevelExpr),
+    Boolean(BooleanExpr),
+}
