@@ -3,6 +3,7 @@
 mod undeclared;
 mod unlisted;
 mod used_again;
+mod wrong_calls;
 
 ghost use Rattle.std.specs.Prelude.{◌≡◌};
 ghost use Rattle.vital_grammar.specs.Grammar.{grammar};
@@ -10,9 +11,11 @@ ghost use Rattle.vital_grammar.specs.Grammar.{grammar};
 use self::undeclared::UNDECLARED;
 use self::unlisted::UNLISTED;
 use self::used_again::USED_AGAIN;
+use self::wrong_calls::WRONG_CALLS;
 use std::alloc::{AllocError, Global};
 use std::test::Fail;
 use vital_base::{List, Place};
+use vital_call_clauses::clause_14;
 use vital_library::{Library, gather};
 use vital_ll::Rules;
 use vital_names::{CellNames, LibraryNames};
@@ -55,6 +58,9 @@ pub struct Row {
     pub used_again: &'static [(u32, u32)],
     pub undeclared: &'static [(u32, u32)],
 }
+
+/// Lines with their numbers that take the place of the good cell's, and where L1.14 is broken then: line and column.
+pub type CallRow = (&'static [(usize, &'static str)], &'static [(u32, u32)]);
 
 /// The good cell in which these lines are others.
 fn edited(alloc: Global, edits: &[(usize, &str)]) -> Result<String, AllocError> {
@@ -132,6 +138,52 @@ fn found(alloc: Global, rules: &Rules, row: &Row) -> Result<Broken, UnitError>
         return Err(UnitError::NoMemory);
     };
     Ok(found_in(alloc, &library, entity, arch)?)
+}
+
+/// Where a cell of a library breaks L1.14.
+fn wrong_calls_in(
+    alloc: Global,
+    library: &Library,
+    entity: &Entity,
+    arch: &Arch,
+) -> Result<Vec<(u32, u32)>, AllocError> {
+    let library = LibraryNames::new(alloc, library)?;
+    let names = CellNames::new(alloc, &library, entity, Some(arch))?;
+    let statements = CellStatements::new(alloc, names.arch())?;
+    in_order(alloc, &clause_14(alloc, &names, &statements)?)
+}
+
+/// Where the good cell in which these lines are others breaks L1.14.
+fn wrong_calls_of(
+    alloc: Global,
+    rules: &Rules,
+    edits: &[(usize, &str)],
+) -> Result<Vec<(u32, u32)>, UnitError>
+    requires { rules.now ≡ grammar }
+{
+    let text = edited(alloc, edits)?;
+    let mut files = Vec::new(alloc);
+    files.push(read(alloc, rules, 0, &text)?)?;
+    let Ok(library) = gather(alloc, List::new(files)) else {
+        return Err(UnitError::NoMemory);
+    };
+    let [cell] = library.files() else {
+        return Err(UnitError::NoMemory);
+    };
+    let [Unit::Entity(entity), Unit::Arch(arch)] = cell.units.as_slice() else {
+        return Err(UnitError::NoMemory);
+    };
+    Ok(wrong_calls_in(alloc, &library, entity, arch)?)
+}
+
+#[test]
+fn calls_are_wrong_at_their_places(rt: HostRuntime) -> Result<(), Fail> {
+    let rules = vhdl_rules(rt.alloc())?;
+    for (edits, expected) in &WRONG_CALLS {
+        let found = wrong_calls_of(rt.alloc(), &rules, edits)?;
+        assert_eq!(rt; found.as_slice(), *expected, "{edits:?}");
+    }
+    Ok(())
 }
 
 #[test]

@@ -1,0 +1,2 @@
+pub mod WrongCalls
+pub mod Clauses

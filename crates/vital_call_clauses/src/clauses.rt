@@ -1,0 +1,161 @@
+//! Where L1.14 is broken.
+
+ghost use Rattle.std.specs.Prelude.{◌≡◌, ◌++◌, map, IfOk, OnOk};
+ghost use Rattle.std.specs.List.{flat_map};
+ghost use Rattle.std.specs.Option.{option_map};
+ghost use Rattle.vital_call_clauses.specs.Clauses as spec;
+ghost use Rattle.vital_calls.specs.Calls as calls;
+ghost use Rattle.vital_names.specs.Sites as sites;
+ghost use Rattle.vital_uses.specs.Sited.{lent_node};
+
+use crate::wrong_call::{is_wrong_function, is_wrong_procedure};
+use std::alloc::{AllocError, Global};
+use vital_base::Place;
+use vital_calls::Call;
+use vital_names::{CellNames, ProcessNames, Site};
+use vital_nodes::{Conc, Reference};
+use vital_statements::{call_of_conc, call_of_stmt};
+use vital_uses::{CellStatements, SitedNode, nodes_of_process, nodes_outside_processes, own_site};
+use vital_walk::{HasPlace, Node};
+
+/// The places where L1.14 is broken in a cell, of which these are the statements: each call whose items are for no formal, for one
+/// twice, too few, or by position where names are asked. It takes time in proportion to the nodes of the cell.
+pub fn clause_14<'a>(
+    alloc: Global,
+    names: &'a CellNames<'a>,
+    statements: &'a CellStatements<'a>,
+) -> Result<Vec<Place>, AllocError>
+    requires { statements.now ≡ names.now.arch }
+    ensures { IfOk result (λ places. places.items ≡ spec.clause_14 names.now) }
+{
+    let mut places = Vec::new(alloc);
+    let nodes = nodes_outside_processes(alloc, names, statements)?;
+    put_wrong_nodes(&mut places, names, &nodes)?;
+    put_wrong_concurrent(&mut places, names, statements.statements())?;
+    put_wrong_in_processes(alloc, &mut places, names, statements.processes())?;
+    Ok(places)
+}
+
+/// Puts a place at the end if it is broken there.
+fn put_if(places: &mut Vec<Place>, is_broken: bool, place: Place) -> Result<(), AllocError>
+    ensures { OnOk result (places.new.items ≡ places.old.items ++ spec.place_if is_broken place) }
+{
+    if is_broken {
+        places.push(place)?;
+    }
+    Ok(())
+}
+
+/// Puts the place of a statement at the end if it is a call with wrong items.
+fn put_wrong_call<'a>(
+    places: &mut Vec<Place>,
+    names: &CellNames<'a>,
+    site: &Site<'a>,
+    place: Place,
+    call: Option<Call<'_>>,
+) -> Result<(), AllocError>
+    ensures { OnOk result (places.new.items ≡ places.old.items ++ spec.wrong_call names.now (sites.lent site.now) place (option_map calls.lent call.entry)) }
+{
+    let is_wrong = match call {
+        Some(call) => is_wrong_procedure(names, site, call),
+        None => false,
+    };
+    put_if(places, is_wrong, place)
+}
+
+/// Puts the place of a node at the end if it is a call with wrong items.
+fn put_wrong_node<'a>(
+    places: &mut Vec<Place>,
+    names: &CellNames<'a>,
+    node: &SitedNode<'a>,
+) -> Result<(), AllocError>
+    ensures { OnOk result (places.new.items ≡ places.old.items ++ spec.wrong_node names.now (lent_node node.now)) }
+{
+    match node.node {
+        Node::Sequential(stmt) => {
+            put_wrong_call(places, names, &node.site, stmt.place(), call_of_stmt(stmt))
+        }
+        Node::Name(name) => {
+            put_if(
+                places,
+                is_wrong_function(names, &node.site, name),
+                name.place(),
+            )
+        }
+        _ => Ok(()),
+    }
+}
+
+/// Puts the places of nodes that are calls with wrong items at the end.
+fn put_wrong_nodes<'a>(
+    places: &mut Vec<Place>,
+    names: &CellNames<'a>,
+    nodes: &[SitedNode<'a>],
+) -> Result<(), AllocError>
+    ensures { OnOk result (places.new.items ≡ places.old.items ++ flat_map (spec.wrong_node names.now) (map lent_node nodes.now)) }
+{
+    for node in nodes {
+        put_wrong_node(places, names, node)?;
+    }
+    Ok(())
+}
+
+/// Puts the places of concurrent statements that are calls with wrong items at the end.
+fn put_wrong_concurrent(
+    places: &mut Vec<Place>,
+    names: &CellNames<'_>,
+    statements: &[&Conc],
+) -> Result<(), AllocError>
+    ensures { OnOk result (places.new.items ≡ places.old.items ++ flat_map (spec.wrong_concurrent names.now) (map (λ c. c.now) statements.now)) }
+{
+    for conc in statements {
+        put_wrong_conc(places, names, conc)?;
+    }
+    Ok(())
+}
+
+/// Puts the place of a concurrent statement at the end if it is a call with wrong items.
+fn put_wrong_conc(
+    places: &mut Vec<Place>,
+    names: &CellNames<'_>,
+    conc: &Conc,
+) -> Result<(), AllocError>
+    ensures { OnOk result (places.new.items ≡ places.old.items ++ spec.wrong_concurrent names.now conc.now) }
+{
+    let place = conc.place();
+    put_wrong_call(
+        places,
+        names,
+        &own_site(None, place),
+        place,
+        call_of_conc(conc),
+    )
+}
+
+/// Puts the places of calls with wrong items in processes at the end.
+fn put_wrong_in_processes<'a>(
+    alloc: Global,
+    places: &mut Vec<Place>,
+    names: &CellNames<'a>,
+    processes: &'a [ProcessNames<'a>],
+) -> Result<(), AllocError>
+    ensures { OnOk result (places.new.items ≡ places.old.items ++ flat_map (spec.wrong_in_process names.now) processes.now) }
+{
+    for process in processes {
+        put_wrong_in_process(alloc, places, names, process)?;
+    }
+    Ok(())
+}
+
+/// Puts the places of calls with wrong items in a process at the end.
+fn put_wrong_in_process<'a>(
+    alloc: Global,
+    places: &mut Vec<Place>,
+    names: &CellNames<'a>,
+    process: &'a ProcessNames<'a>,
+) -> Result<(), AllocError>
+    ensures { OnOk result (places.new.items ≡ places.old.items ++ spec.wrong_in_process names.now process.now) }
+{
+    let nodes = nodes_of_process(alloc, process)?;
+    put_wrong_nodes(places, names, &nodes)
+}
