@@ -5,4 +5,4 @@ mod clauses;
 mod wrong_call;
 
 pub use clauses::clause_14;
-pub use wrong_call::has_vector_result;
+pub use wrong_call::{has_vector_result, is_wrong_for};

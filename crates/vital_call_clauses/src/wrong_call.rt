@@ -18,7 +18,7 @@ use vital_walk::{actual, identifier_of};
 // ---- functions
 
 /// Whether a name is a call of a function with items that are wrong for it.
-fn is_wrong_for(name: &Reference, function: Function) -> bool
+pub fn is_wrong_for(name: &Reference, function: Function) -> bool
     ensures { result ≡ spec.is_wrong_for name.now function }
 {
     match call_of(name) {

@@ -16,7 +16,7 @@ use vital_nodes::{Expr, Item, Object};
 use vital_walk::{LiteralBounds, identifier_of, is_constant, listed_items, positional_value};
 
 /// Whether an object is a constant of VitalTableSymbolType.
-fn is_symbol(library: &LibraryNames<'_>, object: &Object) -> bool
+pub fn is_symbol(library: &LibraryNames<'_>, object: &Object) -> bool
     ensures { result ≡ spec.is_symbol object.now }
 {
     is_constant(object)

@@ -9,6 +9,6 @@ mod scope;
 
 pub use breaking::is_level_literal;
 pub use clauses::{clause_2, clause_3, clause_4, clause_9, clause_17, clause_18};
-pub use good_constant::is_good_constant;
+pub use good_constant::{is_good_constant, is_symbol};
 pub use region::{Region, regions};
 pub use scope::Scope;

@@ -12,7 +12,7 @@ use vital_nodes::Expr;
 use vital_operands::VectorExpr;
 
 /// How many elements a vector has.
-pub(crate) fn length_of(vector: &VectorExpr) -> usize
+pub fn length_of(vector: &VectorExpr) -> usize
     ensures { result ≡ spec.length_of vector.now }
 {
     match vector {

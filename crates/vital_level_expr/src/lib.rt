@@ -9,5 +9,6 @@ mod tables;
 mod vector_forms;
 mod vectors;
 
+pub use lengths::length_of;
 pub use levels::level;
 pub use vectors::vector;

@@ -18,6 +18,7 @@ pub use item_forms::{
     are_positional, levels_of_text, only_value, physical_time, printed_level, value_of_others,
     values,
 };
+pub use named_tables::is_table;
 pub use named_times::even_delay;
 pub use position::{Position, Standing};
 pub use tree::{

@@ -10,7 +10,7 @@ use crate::position::Position;
 use crate::tree::ConstantName;
 use std::alloc::{AllocError, Global};
 use vital_declarations::{DeclaredType, TableType, columns_of, type_of};
-use vital_names::{Declared, Meaning, TypeName};
+use vital_names::{Declared, LibraryNames, Meaning, TypeName};
 use vital_nodes::{Identifier, Object};
 use vital_walk::{is_constant, listed_items};
 
@@ -48,15 +48,14 @@ fn columns_of_value(object: &Object) -> usize
     }
 }
 
-impl<'a> Position<'a> {
-    /// Whether an object is a constant of tables of a kind.
-    fn is_table(&self, kind: TableType, object: &Object) -> bool
-        ensures { result ≡ spec.is_table kind object.now }
-    {
-        is_constant(object)
-            && is_table_type(kind, type_of(self.library(), &object.parts.get().subtype))
-    }
+/// Whether an object is a constant of tables of a kind.
+pub fn is_table(library: &LibraryNames<'_>, kind: TableType, object: &Object) -> bool
+    ensures { result ≡ spec.is_table kind object.now }
+{
+    is_constant(object) && is_table_type(kind, type_of(library, &object.parts.get().subtype))
+}
 
+impl<'a> Position<'a> {
     /// The constant of tables of a kind of a name, and how many columns it has.
     fn table_of_kind(
         &self,
@@ -67,18 +66,20 @@ impl<'a> Position<'a> {
         ensures { IfOk result (λ table. table ≡ spec.table_of_kind kind (lent self.now) identifier.now) }
     {
         match self.meaning(identifier) {
-            Some(Meaning::Declared(Declared::Object(object))) if self.is_table(kind, object) => {
+            Some(Meaning::Declared(Declared::Object(object)))
+                if is_table(self.library(), kind, object) => {
                 Ok(Some((
                     cell_constant(alloc, &object.identifier)?,
                     columns_of_value(object),
                 )))
             }
-            Some(Meaning::Constant(constant)) if self.is_table(kind, constant.object) => {
-                Ok(Some((
-                    ConstantName::Package(constant.number),
-                    columns_of_value(constant.object),
-                )))
-            }
+            Some(Meaning::Constant(constant)) if is_table(self.library(), kind, constant.object) =>
+                {
+                    Ok(Some((
+                        ConstantName::Package(constant.number),
+                        columns_of_value(constant.object),
+                    )))
+                }
             _ => Ok(None),
         }
     }

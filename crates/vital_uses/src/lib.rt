@@ -21,6 +21,7 @@ pub use asked::{Asked, identifier_of_node};
 pub use cell_uses::{CellUses, nodes_outside_processes};
 pub use names_at::{FirstPlaces, NameAt, first_places};
 pub use nodes::nodes_of_process;
+pub use parts::put_asked_of_subtype;
 pub use process_uses::ProcessUses;
 pub use sited::{SitedNode, own_site};
 pub use statements::CellStatements;

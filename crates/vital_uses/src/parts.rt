@@ -82,7 +82,7 @@ impl PartsOf<Decl> for ValueParts {
 }
 
 /// Puts what stands in the parentheses of a type's name, and behind `range`, at the end.
-fn put_asked_of_subtype<'a>(
+pub fn put_asked_of_subtype<'a>(
     nodes: &mut Vec<Node<'a>>,
     subtype: &'a Subtype,
 ) -> Result<(), AllocError>
