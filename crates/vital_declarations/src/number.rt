@@ -1,10 +1,10 @@
-//! How much greater a number that a literal writes is than another one, however long the literals are.
+//! Numbers that literals write, however long the literals are, and how much greater one is than another one.
 
 ghost use Rattle.std.specs.Prelude.{◌≡◌, ℕ, ◌+◌, ◌-◌, ◌*◌, ◌^◌, ◌<◌, ◌≤◌, drop, length, slice_index_or, IfSome};
 ghost use Rattle.std.specs.Char.{digit_value};
 ghost use Rattle.std.specs.Option.{option_map};
 ghost use Rattle.vital_declarations.specs.Digits.{behind_zeros, digits_of, gap_to, shown, split_digit};
-ghost use Rattle.vital_declarations.specs.Numbers.{number};
+ghost use Rattle.vital_declarations.specs.Numbers.{in_word, number};
 
 /// The greatest difference that is told: one more than a word of 64 bits holds.
 const MOST: u128 = 18_446_744_073_709_551_616;
@@ -113,4 +113,14 @@ pub fn gap(upper: &[u8], lower: &[u8]) -> Option<u128>
         gap = next_gap(gap, upper_digits.next(), lower_digits.next());
     }
     gap
+}
+
+/// The number that a literal writes, if a word of 64 bits holds it. Underscores count for nothing.
+pub fn literal_value(literal: &[u8]) -> Option<usize>
+    ensures { result ≡ in_word (number literal.now) }
+{
+    match gap(literal, b"0") {
+        Some(number) if number <= usize::MAX as u128 => Some(number as usize),
+        _ => None,
+    }
 }
