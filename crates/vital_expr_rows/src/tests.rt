@@ -5,11 +5,12 @@ mod rows;
 ghost use Rattle.std.specs.Prelude.{◌≡◌};
 ghost use Rattle.vital_grammar.specs.Grammar.{grammar};
 
-use self::rows::{DELAYS, LEVELS, Row, TEXTS, TIMES, VECTORS};
+use self::rows::{BOOLEANS, DELAYS, LEVELS, Row, TEXTS, TIMES, VECTORS};
 use std::alloc::{AllocError, Global};
 use std::process::Abort;
 use std::test::Fail;
 use vital_base::{List, Place};
+use vital_boolean_expr::boolean;
 use vital_expr::{Reader, text};
 use vital_level_expr::{level, vector};
 use vital_library::{Library, gather};
@@ -26,6 +27,7 @@ use vital_vhdl::{Role, UnitError, Units, read_units, vhdl_rules};
 pub enum Asked {
     Level,
     Vector,
+    Boolean,
     Time,
     Delay(DelayType),
     Text,
@@ -109,6 +111,7 @@ fn is_typed(
     match asked {
         Asked::Level => Ok(level(reader, expr, broken)?.is_some()),
         Asked::Vector => Ok(vector(reader, expr, Some(2), broken)?.is_some()),
+        Asked::Boolean => Ok(boolean(reader, expr, broken)?.is_some()),
         Asked::Time => Ok(time(reader, expr, broken)?.is_some()),
         Asked::Delay(asked) => Ok(delay(reader, asked, expr, broken)?.is_some()),
         Asked::Text => Ok(text(reader, expr, broken)?.is_some()),
@@ -176,7 +179,8 @@ fn levels_and_vectors(rt: HostRuntime) -> Result<(), Fail> {
 }
 
 #[test]
-fn times_delays_and_texts(rt: HostRuntime) -> Result<(), Fail> {
+fn booleans_delays_and_texts(rt: HostRuntime) -> Result<(), Fail> {
+    hold(&rt, rt.alloc(), BOOLEANS)?;
     hold(&rt, rt.alloc(), TIMES)?;
     hold(&rt, rt.alloc(), DELAYS)?;
     hold(&rt, rt.alloc(), TEXTS)

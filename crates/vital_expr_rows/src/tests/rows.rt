@@ -149,6 +149,32 @@ pub const VECTORS: &[Row] = &[
     (Asked::Vector, "R(0)", Some(&[10])),
 ];
 
+/// Truth values.
+pub const BOOLEANS: &[Row] = &[
+    (Asked::Boolean, "TRUE", None),
+    (Asked::Boolean, "FALSE", None),
+    (Asked::Boolean, "TimingChecksOn", None),
+    (Asked::Boolean, "XOn", None),
+    (Asked::Boolean, "MsgOn", Some(&[10])),
+    (Asked::Boolean, "A = B", None),
+    (Asked::Boolean, "A = TRUE", Some(&[10])),
+    (Asked::Boolean, "A /= '1'", None),
+    (Asked::Boolean, "TRUE = FALSE", None),
+    (Asked::Boolean, "(A = B) = TRUE", None),
+    (Asked::Boolean, "not XOn /= TRUE", None),
+    (Asked::Boolean, "A < B", Some(&[10])),
+    (Asked::Boolean, "A = R", Some(&[14])),
+    (Asked::Boolean, "A and TRUE", Some(&[10])),
+    (Asked::Boolean, "not TRUE", None),
+    (Asked::Boolean, "(TRUE)", None),
+    (Asked::Boolean, "BC", Some(&[10])),
+    (Asked::Boolean, "PB", Some(&[10])),
+    (Asked::Boolean, "A", Some(&[10])),
+    (Asked::Boolean, "(A = B) and (TRUE or A)", Some(&[31])),
+    (Asked::Boolean, "TRUE = (A = 1)", Some(&[22])),
+    (Asked::Boolean, "1 = A", Some(&[10])),
+];
+
 /// Times.
 pub const TIMES: &[Row] = &[
     (Asked::Time, "1 ns", None),
