@@ -1,0 +1,5 @@
+pub mod Kinds
+pub mod Targets
+pub mod Literals
+pub mod Paths
+pub mod Actuals

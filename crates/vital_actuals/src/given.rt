@@ -1,0 +1,408 @@
+//! What actuals are where a form is asked of them.
+
+ghost use Rattle.std.specs.Prelude.{◌≡◌, ◌++◌, IfOk, OnOk};
+ghost use Rattle.std.specs.Option.{option_copied};
+ghost use Rattle.vital_actuals.specs.Actuals as spec;
+ghost use Rattle.vital_calls.specs.declared.actual_form.ActualForm.TheVariants as form;
+ghost use Rattle.vital_expr.specs.Outcomes.{and_then, map_typed};
+ghost use Rattle.vital_expr.specs.Readings as readings;
+ghost use Rattle.vital_expr.specs.Seen.{lent};
+ghost use Rattle.vital_operands.specs.Faults.{own_breach};
+
+use crate::actual::Actual;
+use crate::by_name::{
+    mode_alone, named, put_fault, result_named, severity_alone, state_table_named,
+    truth_table_named, vector_named,
+};
+use crate::literal::{edge_symbol, state_count};
+use crate::path::paths;
+use std::alloc::AllocError;
+use vital_base::Place;
+use vital_boolean_expr::boolean;
+use vital_calls::ActualForm;
+use vital_expr::{Reader, text};
+use vital_level_expr::{level, vector};
+use vital_nodes::{Actual as GivenActual, Choice, Expr, Item};
+use vital_operands::{BooleanExpr, TimeExpr};
+use vital_time_expr::{delay, time};
+use vital_timing::DelayType;
+use vital_walk::{HasPlace, Node, actual};
+
+// ---- names and literals alone
+
+/// The name of an identifier alone, for the forms that ask for something declared.
+fn read_name(
+    reader: &Reader<'_>,
+    form: ActualForm,
+    expr: &Expr,
+    broken: &mut Vec<Place>,
+) -> Result<Option<Actual>, AllocError>
+    ensures tree { IfOk result (λ tree. tree ≡ (spec.name_as (lent reader.now) form expr.now).tree) }
+    ensures places { OnOk result (broken.new.items ≡ broken.old.items ++ (spec.name_as (lent reader.now) form expr.now).places) }
+{
+    match named(reader, form, expr)? {
+        Some(name) => Ok(Some(Actual::Named(name))),
+        None => reader.broken(expr, broken),
+    }
+}
+
+/// What a result is put to.
+fn read_result(
+    reader: &Reader<'_>,
+    expr: &Expr,
+    broken: &mut Vec<Place>,
+) -> Result<Option<Actual>, AllocError>
+    ensures tree { IfOk result (λ tree. tree ≡ (spec.actual_as (lent reader.now) form.Result expr.now).tree) }
+    ensures places { OnOk result (broken.new.items ≡ broken.old.items ++ (spec.actual_as (lent reader.now) form.Result expr.now).places) }
+{
+    match result_named(reader, expr)? {
+        Some(target) => Ok(Some(Actual::Target(target))),
+        None => reader.broken(expr, broken),
+    }
+}
+
+/// The vector variable that keeps the inputs of a state table.
+fn read_previous_data(
+    reader: &Reader<'_>,
+    expr: &Expr,
+    broken: &mut Vec<Place>,
+) -> Result<Option<Actual>, AllocError>
+    ensures tree { IfOk result (λ tree. tree ≡ (spec.actual_as (lent reader.now) form.PreviousData expr.now).tree) }
+    ensures places { OnOk result (broken.new.items ≡ broken.old.items ++ (spec.actual_as (lent reader.now) form.PreviousData expr.now).places) }
+{
+    match vector_named(reader, expr)? {
+        Some(target) => Ok(Some(Actual::Target(target))),
+        None => reader.broken(expr, broken),
+    }
+}
+
+/// A truth table.
+fn read_truth_table(
+    reader: &Reader<'_>,
+    expr: &Expr,
+    broken: &mut Vec<Place>,
+) -> Result<Option<Actual>, AllocError>
+    ensures tree { IfOk result (λ tree. tree ≡ (spec.actual_as (lent reader.now) form.TruthTable expr.now).tree) }
+    ensures places { OnOk result (broken.new.items ≡ broken.old.items ++ (spec.actual_as (lent reader.now) form.TruthTable expr.now).places) }
+{
+    match truth_table_named(reader, expr)? {
+        Some((table, columns)) => Ok(Some(Actual::Table(table, columns))),
+        None => reader.broken(expr, broken),
+    }
+}
+
+/// A state table.
+fn read_state_table(
+    reader: &Reader<'_>,
+    expr: &Expr,
+    broken: &mut Vec<Place>,
+) -> Result<Option<Actual>, AllocError>
+    ensures tree { IfOk result (λ tree. tree ≡ (spec.actual_as (lent reader.now) form.StateTable expr.now).tree) }
+    ensures places { OnOk result (broken.new.items ≡ broken.old.items ++ (spec.actual_as (lent reader.now) form.StateTable expr.now).places) }
+{
+    match state_table_named(reader, expr)? {
+        Some((table, columns)) => Ok(Some(Actual::Table(table, columns))),
+        None => reader.broken(expr, broken),
+    }
+}
+
+/// A literal number of states.
+fn read_state_count(
+    reader: &Reader<'_>,
+    expr: &Expr,
+    broken: &mut Vec<Place>,
+) -> Result<Option<Actual>, AllocError>
+    ensures tree { IfOk result (λ tree. tree ≡ (spec.actual_as (lent reader.now) form.StateCount expr.now).tree) }
+    ensures places { OnOk result (broken.new.items ≡ broken.old.items ++ (spec.actual_as (lent reader.now) form.StateCount expr.now).places) }
+{
+    match state_count(expr) {
+        Some(count) => Ok(Some(Actual::StateCount(count))),
+        None => reader.broken(expr, broken),
+    }
+}
+
+/// A mode.
+fn read_mode(
+    reader: &Reader<'_>,
+    expr: &Expr,
+    broken: &mut Vec<Place>,
+) -> Result<Option<Actual>, AllocError>
+    ensures tree { IfOk result (λ tree. tree ≡ (spec.actual_as (lent reader.now) form.Mode expr.now).tree) }
+    ensures places { OnOk result (broken.new.items ≡ broken.old.items ++ (spec.actual_as (lent reader.now) form.Mode expr.now).places) }
+{
+    match mode_alone(reader, expr) {
+        Some(mode) => Ok(Some(Actual::Mode(mode))),
+        None => reader.broken(expr, broken),
+    }
+}
+
+/// A severity.
+fn read_severity(
+    reader: &Reader<'_>,
+    expr: &Expr,
+    broken: &mut Vec<Place>,
+) -> Result<Option<Actual>, AllocError>
+    ensures tree { IfOk result (λ tree. tree ≡ (spec.actual_as (lent reader.now) form.Severity expr.now).tree) }
+    ensures places { OnOk result (broken.new.items ≡ broken.old.items ++ (spec.actual_as (lent reader.now) form.Severity expr.now).places) }
+{
+    match severity_alone(reader, expr) {
+        Some(severity) => Ok(Some(Actual::Severity(severity))),
+        None => reader.broken(expr, broken),
+    }
+}
+
+/// A character literal that stands for a set of changes.
+fn read_edge_symbol(
+    reader: &Reader<'_>,
+    expr: &Expr,
+    broken: &mut Vec<Place>,
+) -> Result<Option<Actual>, AllocError>
+    ensures tree { IfOk result (λ tree. tree ≡ (spec.actual_as (lent reader.now) form.EdgeSymbol expr.now).tree) }
+    ensures places { OnOk result (broken.new.items ≡ broken.old.items ++ (spec.actual_as (lent reader.now) form.EdgeSymbol expr.now).places) }
+{
+    match edge_symbol(expr) {
+        Some(symbol) => Ok(Some(Actual::EdgeSymbol(symbol))),
+        None => reader.broken(expr, broken),
+    }
+}
+
+// ---- expressions
+
+/// The inputs of a table.
+fn read_inputs(
+    reader: &Reader<'_>,
+    expr: &Expr,
+    broken: &mut Vec<Place>,
+) -> Result<Option<Actual>, AllocError>
+    ensures tree { IfOk result (λ tree. tree ≡ (spec.actual_as (lent reader.now) form.Inputs expr.now).tree) }
+    ensures places { OnOk result (broken.new.items ≡ broken.old.items ++ (spec.actual_as (lent reader.now) form.Inputs expr.now).places) }
+{
+    match vector(reader, expr, None, broken)? {
+        Some(inputs) => Ok(Some(Actual::Inputs(inputs))),
+        None => Ok(None),
+    }
+}
+
+/// A level.
+fn read_level(
+    reader: &Reader<'_>,
+    expr: &Expr,
+    broken: &mut Vec<Place>,
+) -> Result<Option<Actual>, AllocError>
+    ensures tree { IfOk result (λ tree. tree ≡ (spec.actual_as (lent reader.now) form.Level expr.now).tree) }
+    ensures places { OnOk result (broken.new.items ≡ broken.old.items ++ (spec.actual_as (lent reader.now) form.Level expr.now).places) }
+{
+    match level(reader, expr, broken)? {
+        Some(level) => Ok(Some(Actual::Level(level))),
+        None => Ok(None),
+    }
+}
+
+/// A delay of a type.
+fn read_delay(
+    reader: &Reader<'_>,
+    asked: DelayType,
+    expr: &Expr,
+    broken: &mut Vec<Place>,
+) -> Result<Option<Actual>, AllocError>
+    ensures tree { IfOk result (λ tree. tree ≡ (spec.actual_as (lent reader.now) (form.Delay asked) expr.now).tree) }
+    ensures places { OnOk result (broken.new.items ≡ broken.old.items ++ (spec.actual_as (lent reader.now) (form.Delay asked) expr.now).places) }
+{
+    match delay(reader, asked, expr, broken)? {
+        Some(delay) => Ok(Some(Actual::Delay(delay))),
+        None => Ok(None),
+    }
+}
+
+/// A time.
+fn read_time(
+    reader: &Reader<'_>,
+    expr: &Expr,
+    broken: &mut Vec<Place>,
+) -> Result<Option<Actual>, AllocError>
+    ensures tree { IfOk result (λ tree. tree ≡ (spec.actual_as (lent reader.now) form.Time expr.now).tree) }
+    ensures places { OnOk result (broken.new.items ≡ broken.old.items ++ (spec.actual_as (lent reader.now) form.Time expr.now).places) }
+{
+    match time(reader, expr, broken)? {
+        Some(time) => Ok(Some(Actual::Time(time))),
+        None => Ok(None),
+    }
+}
+
+/// A truth value.
+fn read_boolean(
+    reader: &Reader<'_>,
+    expr: &Expr,
+    broken: &mut Vec<Place>,
+) -> Result<Option<Actual>, AllocError>
+    ensures tree { IfOk result (λ tree. tree ≡ (spec.actual_as (lent reader.now) form.Boolean expr.now).tree) }
+    ensures places { OnOk result (broken.new.items ≡ broken.old.items ++ (spec.actual_as (lent reader.now) form.Boolean expr.now).places) }
+{
+    match boolean(reader, expr, broken)? {
+        Some(boolean) => Ok(Some(Actual::Boolean(boolean))),
+        None => Ok(None),
+    }
+}
+
+/// A text.
+fn read_text(
+    reader: &Reader<'_>,
+    expr: &Expr,
+    broken: &mut Vec<Place>,
+) -> Result<Option<Actual>, AllocError>
+    ensures tree { IfOk result (λ tree. tree ≡ (spec.actual_as (lent reader.now) form.Text expr.now).tree) }
+    ensures places { OnOk result (broken.new.items ≡ broken.old.items ++ (spec.actual_as (lent reader.now) form.Text expr.now).places) }
+{
+    match text(reader, expr, broken)? {
+        Some(_) => Ok(Some(Actual::Text)),
+        None => Ok(None),
+    }
+}
+
+/// A list of paths whose delays are of a type.
+fn read_paths(
+    reader: &Reader<'_>,
+    asked: DelayType,
+    expr: &Expr,
+    broken: &mut Vec<Place>,
+) -> Result<Option<Actual>, AllocError>
+    ensures tree { IfOk result (λ tree. tree ≡ (spec.actual_as (lent reader.now) (form.Paths asked) expr.now).tree) }
+    ensures places { OnOk result (broken.new.items ≡ broken.old.items ++ (spec.actual_as (lent reader.now) (form.Paths asked) expr.now).places) }
+{
+    match paths(reader, asked, expr, broken)? {
+        Some(paths) => Ok(Some(Actual::Paths(paths))),
+        None => Ok(None),
+    }
+}
+
+// ---- literals that alone are allowed
+
+/// Whether a truth value is the literal itself.
+fn is_literal(boolean: &BooleanExpr, literal: bool) -> bool
+    ensures { result ≡ spec.is_literal literal boolean.now }
+{
+    match boolean {
+        BooleanExpr::Literal(value) => *value == literal,
+        _ => false,
+    }
+}
+
+/// A truth value that is the literal itself.
+fn read_only_boolean(
+    reader: &Reader<'_>,
+    literal: bool,
+    expr: &Expr,
+    broken: &mut Vec<Place>,
+) -> Result<Option<Actual>, AllocError>
+    ensures tree { IfOk result (λ tree. tree ≡ (and_then (spec.only_boolean literal (lent reader.now) expr.now) (readings.boolean_of (lent reader.now) expr.now)).tree) }
+    ensures places { OnOk result (broken.new.items ≡ broken.old.items ++ (and_then (spec.only_boolean literal (lent reader.now) expr.now) (readings.boolean_of (lent reader.now) expr.now)).places) }
+{
+    match boolean(reader, expr, broken)? {
+        Some(value) => {
+            if is_literal(&value, literal) {
+                Ok(Some(Actual::Fixed))
+            } else {
+                reader.broken(expr, broken)
+            }
+        }
+        None => Ok(None),
+    }
+}
+
+/// Whether a time is the literal 0.
+fn is_zero(time: &TimeExpr) -> bool
+    ensures { result ≡ spec.is_zero time.now }
+{
+    match time {
+        TimeExpr::Literal(time) => *time == 0,
+        _ => false,
+    }
+}
+
+/// A time that is the literal 0.
+fn read_only_zero(
+    reader: &Reader<'_>,
+    expr: &Expr,
+    broken: &mut Vec<Place>,
+) -> Result<Option<Actual>, AllocError>
+    ensures tree { IfOk result (λ tree. tree ≡ (spec.actual_as (lent reader.now) form.OnlyZero expr.now).tree) }
+    ensures places { OnOk result (broken.new.items ≡ broken.old.items ++ (spec.actual_as (lent reader.now) form.OnlyZero expr.now).places) }
+{
+    match time(reader, expr, broken)? {
+        Some(value) => {
+            if is_zero(&value) {
+                Ok(Some(Actual::Fixed))
+            } else {
+                reader.broken(expr, broken)
+            }
+        }
+        None => Ok(None),
+    }
+}
+
+// ---- actuals
+
+/// What an expression is as an actual of a form, or where it is not of that form.
+fn actual_as(
+    reader: &Reader<'_>,
+    form: ActualForm,
+    expr: &Expr,
+    broken: &mut Vec<Place>,
+) -> Result<Option<Actual>, AllocError>
+    ensures tree { IfOk result (λ tree. tree ≡ (spec.actual_as (lent reader.now) form expr.now).tree) }
+    ensures places { OnOk result (broken.new.items ≡ broken.old.items ++ (spec.actual_as (lent reader.now) form expr.now).places) }
+{
+    match form {
+        ActualForm::Result => read_result(reader, expr, broken),
+        ActualForm::PreviousData => read_previous_data(reader, expr, broken),
+        ActualForm::TruthTable => read_truth_table(reader, expr, broken),
+        ActualForm::StateTable => read_state_table(reader, expr, broken),
+        ActualForm::Inputs => read_inputs(reader, expr, broken),
+        ActualForm::StateCount => read_state_count(reader, expr, broken),
+        ActualForm::Level => read_level(reader, expr, broken),
+        ActualForm::Delay(asked) => read_delay(reader, asked, expr, broken),
+        ActualForm::Time => read_time(reader, expr, broken),
+        ActualForm::Boolean => read_boolean(reader, expr, broken),
+        ActualForm::Text => read_text(reader, expr, broken),
+        ActualForm::Mode => read_mode(reader, expr, broken),
+        ActualForm::Severity => read_severity(reader, expr, broken),
+        ActualForm::OnlyFalse => read_only_boolean(reader, false, expr, broken),
+        ActualForm::OnlyTrue => read_only_boolean(reader, true, expr, broken),
+        ActualForm::OnlyZero => read_only_zero(reader, expr, broken),
+        ActualForm::EdgeSymbol => read_edge_symbol(reader, expr, broken),
+        ActualForm::Paths(asked) => read_paths(reader, asked, expr, broken),
+        _ => read_name(reader, form, expr, broken),
+    }
+}
+
+/// Where what an item gives stands.
+pub fn place_given(item: &Item) -> Place
+    ensures { result ≡ spec.place_given item.now }
+{
+    match item {
+        Item::Named(association) => match &association.get().actual {
+            GivenActual::Value(value) => value.place(),
+            GivenActual::Open(place) => *place,
+        },
+        _ => item.place(),
+    }
+}
+
+/// What an item gives as an actual of a form, or where it gives none of that form.
+pub fn read_actual(
+    reader: &Reader<'_>,
+    form: ActualForm,
+    item: &Item,
+    broken: &mut Vec<Place>,
+) -> Result<Option<Actual>, AllocError>
+    ensures tree { IfOk result (λ tree. tree ≡ (spec.actual_of (lent reader.now) form item.now).tree) }
+    ensures places { OnOk result (broken.new.items ≡ broken.old.items ++ (spec.actual_of (lent reader.now) form item.now).places) }
+{
+    match actual(item) {
+        Some(value) => actual_as(reader, form, value, broken),
+        None => {
+            put_fault(reader, Node::Item(item), place_given(item), broken)?;
+            Ok(None)
+        }
+    }
+}
