@@ -1,0 +1,4 @@
+pub mod Given
+pub mod StateTables
+pub mod Statements
+pub mod Uses
