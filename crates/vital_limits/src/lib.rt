@@ -9,6 +9,6 @@ mod passed;
 mod text_limits;
 
 pub use cell::cell_limit;
-pub use packages::{ConstantLimits, constant_limits, constant_meant};
+pub use packages::{ConstantLimits, constant_limits, constant_meant, named_at};
 pub use passed::{CellLimit, PassedLimit, earliest};
 pub use text_limits::own_limits;

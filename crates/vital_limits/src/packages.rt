@@ -88,7 +88,7 @@ fn constant_named(library: &LibraryNames<'_>, number: usize, name: &[u8]) -> Opt
 }
 
 /// The constant that a node in the declaration of the constant of a number names.
-fn named_at(library: &LibraryNames<'_>, number: usize, node: Node<'_>) -> Option<usize>
+pub fn named_at(library: &LibraryNames<'_>, number: usize, node: Node<'_>) -> Option<usize>
     ensures { result ≡ spec.named_at library.now number (seen node.entry) }
 {
     match identifier_of_node(node) {
