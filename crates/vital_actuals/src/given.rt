@@ -1,20 +1,18 @@
 //! What actuals are where a form is asked of them.
 
 ghost use Rattle.std.specs.Prelude.{◌≡◌, ◌++◌, IfOk, OnOk};
-ghost use Rattle.std.specs.Option.{option_copied};
 ghost use Rattle.vital_actuals.specs.Actuals as spec;
 ghost use Rattle.vital_calls.specs.declared.actual_form.ActualForm.TheVariants as form;
 ghost use Rattle.vital_expr.specs.Outcomes.{and_then, map_typed};
 ghost use Rattle.vital_expr.specs.Readings as readings;
 ghost use Rattle.vital_expr.specs.Seen.{lent};
-ghost use Rattle.vital_operands.specs.Faults.{own_breach};
 
 use crate::actual::Actual;
-use crate::by_name::{
-    mode_alone, named, put_fault, result_named, severity_alone, state_table_named,
-    truth_table_named, vector_named,
+use crate::alone::{
+    read_edge_symbol, read_mode, read_name, read_previous_data, read_result, read_severity,
+    read_state_count, read_state_table, read_truth_table,
 };
-use crate::literal::{edge_symbol, state_count};
+use crate::by_name::put_fault;
 use crate::path::paths;
 use std::alloc::AllocError;
 use vital_base::Place;
@@ -22,149 +20,11 @@ use vital_boolean_expr::boolean;
 use vital_calls::ActualForm;
 use vital_expr::{Reader, text};
 use vital_level_expr::{level, vector};
-use vital_nodes::{Actual as GivenActual, Choice, Expr, Item};
+use vital_nodes::{Actual as GivenActual, Expr, Item};
 use vital_operands::{BooleanExpr, TimeExpr};
 use vital_time_expr::{delay, time};
 use vital_timing::DelayType;
 use vital_walk::{HasPlace, Node, actual};
-
-// ---- names and literals alone
-
-/// The name of an identifier alone, for the forms that ask for something declared.
-fn read_name(
-    reader: &Reader<'_>,
-    form: ActualForm,
-    expr: &Expr,
-    broken: &mut Vec<Place>,
-) -> Result<Option<Actual>, AllocError>
-    ensures tree { IfOk result (λ tree. tree ≡ (spec.name_as (lent reader.now) form expr.now).tree) }
-    ensures places { OnOk result (broken.new.items ≡ broken.old.items ++ (spec.name_as (lent reader.now) form expr.now).places) }
-{
-    match named(reader, form, expr)? {
-        Some(name) => Ok(Some(Actual::Named(name))),
-        None => reader.broken(expr, broken),
-    }
-}
-
-/// What a result is put to.
-fn read_result(
-    reader: &Reader<'_>,
-    expr: &Expr,
-    broken: &mut Vec<Place>,
-) -> Result<Option<Actual>, AllocError>
-    ensures tree { IfOk result (λ tree. tree ≡ (spec.actual_as (lent reader.now) form.Result expr.now).tree) }
-    ensures places { OnOk result (broken.new.items ≡ broken.old.items ++ (spec.actual_as (lent reader.now) form.Result expr.now).places) }
-{
-    match result_named(reader, expr)? {
-        Some(target) => Ok(Some(Actual::Target(target))),
-        None => reader.broken(expr, broken),
-    }
-}
-
-/// The vector variable that keeps the inputs of a state table.
-fn read_previous_data(
-    reader: &Reader<'_>,
-    expr: &Expr,
-    broken: &mut Vec<Place>,
-) -> Result<Option<Actual>, AllocError>
-    ensures tree { IfOk result (λ tree. tree ≡ (spec.actual_as (lent reader.now) form.PreviousData expr.now).tree) }
-    ensures places { OnOk result (broken.new.items ≡ broken.old.items ++ (spec.actual_as (lent reader.now) form.PreviousData expr.now).places) }
-{
-    match vector_named(reader, expr)? {
-        Some(target) => Ok(Some(Actual::Target(target))),
-        None => reader.broken(expr, broken),
-    }
-}
-
-/// A truth table.
-fn read_truth_table(
-    reader: &Reader<'_>,
-    expr: &Expr,
-    broken: &mut Vec<Place>,
-) -> Result<Option<Actual>, AllocError>
-    ensures tree { IfOk result (λ tree. tree ≡ (spec.actual_as (lent reader.now) form.TruthTable expr.now).tree) }
-    ensures places { OnOk result (broken.new.items ≡ broken.old.items ++ (spec.actual_as (lent reader.now) form.TruthTable expr.now).places) }
-{
-    match truth_table_named(reader, expr)? {
-        Some((table, columns)) => Ok(Some(Actual::Table(table, columns))),
-        None => reader.broken(expr, broken),
-    }
-}
-
-/// A state table.
-fn read_state_table(
-    reader: &Reader<'_>,
-    expr: &Expr,
-    broken: &mut Vec<Place>,
-) -> Result<Option<Actual>, AllocError>
-    ensures tree { IfOk result (λ tree. tree ≡ (spec.actual_as (lent reader.now) form.StateTable expr.now).tree) }
-    ensures places { OnOk result (broken.new.items ≡ broken.old.items ++ (spec.actual_as (lent reader.now) form.StateTable expr.now).places) }
-{
-    match state_table_named(reader, expr)? {
-        Some((table, columns)) => Ok(Some(Actual::Table(table, columns))),
-        None => reader.broken(expr, broken),
-    }
-}
-
-/// A literal number of states.
-fn read_state_count(
-    reader: &Reader<'_>,
-    expr: &Expr,
-    broken: &mut Vec<Place>,
-) -> Result<Option<Actual>, AllocError>
-    ensures tree { IfOk result (λ tree. tree ≡ (spec.actual_as (lent reader.now) form.StateCount expr.now).tree) }
-    ensures places { OnOk result (broken.new.items ≡ broken.old.items ++ (spec.actual_as (lent reader.now) form.StateCount expr.now).places) }
-{
-    match state_count(expr) {
-        Some(count) => Ok(Some(Actual::StateCount(count))),
-        None => reader.broken(expr, broken),
-    }
-}
-
-/// A mode.
-fn read_mode(
-    reader: &Reader<'_>,
-    expr: &Expr,
-    broken: &mut Vec<Place>,
-) -> Result<Option<Actual>, AllocError>
-    ensures tree { IfOk result (λ tree. tree ≡ (spec.actual_as (lent reader.now) form.Mode expr.now).tree) }
-    ensures places { OnOk result (broken.new.items ≡ broken.old.items ++ (spec.actual_as (lent reader.now) form.Mode expr.now).places) }
-{
-    match mode_alone(reader, expr) {
-        Some(mode) => Ok(Some(Actual::Mode(mode))),
-        None => reader.broken(expr, broken),
-    }
-}
-
-/// A severity.
-fn read_severity(
-    reader: &Reader<'_>,
-    expr: &Expr,
-    broken: &mut Vec<Place>,
-) -> Result<Option<Actual>, AllocError>
-    ensures tree { IfOk result (λ tree. tree ≡ (spec.actual_as (lent reader.now) form.Severity expr.now).tree) }
-    ensures places { OnOk result (broken.new.items ≡ broken.old.items ++ (spec.actual_as (lent reader.now) form.Severity expr.now).places) }
-{
-    match severity_alone(reader, expr) {
-        Some(severity) => Ok(Some(Actual::Severity(severity))),
-        None => reader.broken(expr, broken),
-    }
-}
-
-/// A character literal that stands for a set of changes.
-fn read_edge_symbol(
-    reader: &Reader<'_>,
-    expr: &Expr,
-    broken: &mut Vec<Place>,
-) -> Result<Option<Actual>, AllocError>
-    ensures tree { IfOk result (λ tree. tree ≡ (spec.actual_as (lent reader.now) form.EdgeSymbol expr.now).tree) }
-    ensures places { OnOk result (broken.new.items ≡ broken.old.items ++ (spec.actual_as (lent reader.now) form.EdgeSymbol expr.now).places) }
-{
-    match edge_symbol(expr) {
-        Some(symbol) => Ok(Some(Actual::EdgeSymbol(symbol))),
-        None => reader.broken(expr, broken),
-    }
-}
 
 // ---- expressions
 

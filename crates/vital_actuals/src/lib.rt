@@ -3,6 +3,7 @@
 #![tactic(auto)]
 
 mod actual;
+mod alone;
 mod by_name;
 mod given;
 mod kind;
