@@ -6,7 +6,7 @@ use Rattle.vital_logic.specs.declared.level.Level.{Level}
 use Rattle.vital_logic.specs.Levels.{byte_of}
 use Rattle.vital_report.specs.Fields.{clause_word}
 use Rattle.vital_report.specs.declared.line.Line.{Line}
-use Rattle.vital_report.specs.declared.line.Line.TheVariants.{Version, Init, Event, End, CellRead, CellBroken, RefusedUsage, RefusedLexical, RefusedSyntax, RefusedLimit, RefusedLibrary, RefusedStimulus}
+use Rattle.vital_report.specs.declared.line.Line.TheVariants.{Version, Init, Event, End, CellLevel1, CellBroken, RefusedUsage, RefusedLexical, RefusedSyntax, RefusedLimit, RefusedLibrary, RefusedStimulus}
 use Rattle.vital_report.specs.declared.line.Position.{Position}
 use Rattle.vital_report.specs.declared.line.UsageWhy.{UsageWhy}
 use Rattle.vital_report.specs.declared.line.UsageWhy.TheVariants.{Command, Key, Twice, Value, Missing}
@@ -15,7 +15,7 @@ use Rattle.vital_report.specs.declared.line.StimulusWhy.TheVariants as stimulus
 use Rattle.vital_report.specs.declared.line.LexicalWhy.{LexicalWhy}
 use Rattle.vital_report.specs.declared.line.LexicalWhy.TheVariants.{Character, Unclosed}
 use Rattle.vital_report.specs.declared.line.Limit.{Limit}
-use Rattle.vital_report.specs.declared.line.Limit.TheVariants.{File, Tokens, Nesting, Units}
+use Rattle.vital_report.specs.declared.line.Limit.TheVariants.{File, Tokens, Nesting, Units, Ports, Rows, Columns, Paths, Delay}
 use Rattle.vital_report.specs.declared.line.LibraryWhy.{LibraryWhy}
 use Rattle.vital_report.specs.declared.line.LibraryWhy.TheVariants.{Duplicate, Entity}
 
@@ -31,7 +31,7 @@ pub data Said : Type 0 where
   init : (name : List ℕ) (value : Level) → Said
   event : (time delta : ℕ) (name : List ℕ) (value : Level) → Said
   end : (time : ℕ) → Said
-  cell_read : (entity : List ℕ) (arch : Option (List ℕ)) → Said
+  cell_level1 : (entity : List ℕ) (arch : Option (List ℕ)) → Said
   cell_broken : (entity : List ℕ) (arch : Option (List ℕ)) (clause : Clause) (at : Spot) → Said
   refused_usage : (word : ℕ) (why : UsageWhy) → Said
   refused_lexical : (why : LexicalWhy) (at : Spot) → Said
@@ -50,7 +50,7 @@ said Version = version
 said (Init name value) = init name.now value
 said (Event time delta name value) = event time delta name.now value
 said (End time) = end time
-said (CellRead entity arch) = cell_read entity.now (option_map (λ name. name.now) arch)
+said (CellLevel1 entity arch) = cell_level1 entity.now (option_map (λ name. name.now) arch)
 said (CellBroken entity arch clause at) = cell_broken entity.now (option_map (λ name. name.now) arch) clause (spot at)
 said (RefusedUsage word why) = refused_usage word why
 said (RefusedLexical at why) = refused_lexical why (spot at)
@@ -61,7 +61,7 @@ said (RefusedStimulus why file line) = refused_stimulus why file.now line
 
 -- Is it the line of a cell?
 abbrev pub is_of_cell : Line → Bool
-is_of_cell (CellRead entity arch) = true
+is_of_cell (CellLevel1 entity arch) = true
 is_of_cell (CellBroken entity arch clause at) = true
 is_of_cell line = false
 
@@ -96,12 +96,17 @@ abbrev pub lexical_word : LexicalWhy → List ℕ
 lexical_word Character = codes "character"
 lexical_word Unclosed = codes "unclosed"
 
--- Which limit a file passes, in a word.
+-- Which limit is passed, by files or by a cell, in a word.
 abbrev pub limit_word : Limit → List ℕ
 limit_word File = codes "file"
 limit_word Tokens = codes "tokens"
 limit_word Nesting = codes "nesting"
 limit_word Units = codes "units"
+limit_word Ports = codes "ports"
+limit_word Rows = codes "rows"
+limit_word Columns = codes "columns"
+limit_word Paths = codes "paths"
+limit_word Delay = codes "delay"
 
 -- Why the units of a library do not go together, in a word.
 abbrev pub library_word : LibraryWhy → List ℕ
@@ -132,7 +137,7 @@ bytes_of (init name value) = line_of (codes "init") (name ∷ (byte_of value ∷
 bytes_of (event time delta name value) =
     line_of (codes "event") (decimal time ∷ decimal delta ∷ name ∷ (byte_of value ∷ []) ∷ [])
 bytes_of (end time) = line_of (codes "end") (decimal time ∷ [])
-bytes_of (cell_read entity arch) = line_of (codes "cell") (entity ∷ arch_word arch ∷ codes "read" ∷ [])
+bytes_of (cell_level1 entity arch) = line_of (codes "cell") (entity ∷ arch_word arch ∷ codes "level1" ∷ [])
 bytes_of (cell_broken entity arch clause at) =
     line_of (codes "cell") (entity ∷ arch_word arch ∷ level_word clause ∷ clause_word clause ∷ spot_fields at)
 bytes_of (refused_usage word why) = line_of (codes "refused usage") (decimal word ∷ usage_word why ∷ [])

@@ -25,8 +25,9 @@ pub enum Line<'a> {
     End {
         time: Time,
     },
-    /// `cell ENTITY ARCH read`: an entity was read, with this architecture; ARCH is `-` where it has none.
-    CellRead {
+    /// `cell ENTITY ARCH level1`: the cell, an entity with this architecture, meets Level 1 of VITAL (IEEE 1076.4); ARCH is `-` where
+    /// the entity has none.
+    CellLevel1 {
         entity: &'a Name,
         arch: Option<&'a Name>,
     },
@@ -52,8 +53,8 @@ pub enum Line<'a> {
     RefusedSyntax {
         at: Position<'a>,
     },
-    /// `refused limit WHICH FILE LINE COLUMN`: at this place a file passes a limit. The place in a file that is too long is
-    /// 0 and 0.
+    /// `refused limit WHICH FILE LINE COLUMN`: at this place a file or a cell passes a limit. The place in a file that is too long
+    /// is 0 and 0.
     RefusedLimit {
         limit: Limit,
         at: Position<'a>,
@@ -74,7 +75,7 @@ pub enum Line<'a> {
 /// A place as it is printed: the name of its file, and the line and the column in it, both from 1; or 0 and 0 for a whole file.
 #[derive(Clone, Copy, Debug)]
 pub struct Position<'a> {
-    pub file: &'a Name,
+    pub file: &'a [u8],
     pub line: u32,
     pub column: u32,
 }
@@ -160,7 +161,7 @@ impl LexicalWhy {
     }
 }
 
-/// Which limit a file passes.
+/// Which limit is passed, by files or by a cell.
 #[derive(Clone, Copy, Debug, PartialEq, Eq)]
 pub enum Limit {
     /// The length of a file.
@@ -171,6 +172,16 @@ pub enum Limit {
     Nesting,
     /// The count of the units of a library.
     Units,
+    /// The count of the ports of a cell.
+    Ports,
+    /// The count of the rows of a table.
+    Rows,
+    /// The count of the columns of a table.
+    Columns,
+    /// The count of the paths of a path delay call.
+    Paths,
+    /// The worth of a time literal in a cell.
+    Delay,
 }
 
 impl Limit {
@@ -183,6 +194,11 @@ impl Limit {
             Limit::Tokens => b"tokens",
             Limit::Nesting => b"nesting",
             Limit::Units => b"units",
+            Limit::Ports => b"ports",
+            Limit::Rows => b"rows",
+            Limit::Columns => b"columns",
+            Limit::Paths => b"paths",
+            Limit::Delay => b"delay",
         }
     }
 }

@@ -42,7 +42,7 @@ pub(crate) fn write<K: Sink>(
             write_fields(buffer, sink, b"event", &fields)
         }
         Line::End { time } => write_fields(buffer, sink, b"end", &Field(time)),
-        Line::CellRead { .. } | Line::CellBroken { .. } => write_cell(buffer, sink, line),
+        Line::CellLevel1 { .. } | Line::CellBroken { .. } => write_cell(buffer, sink, line),
         _ => write_refusal(buffer, sink, line),
     }
 }
@@ -61,8 +61,8 @@ fn write_cell<K: Sink>(buffer: &mut [u8], sink: &mut K, line: &Line<'_>) -> Resu
         (bytes_of (said line.now)) (K.told sink.new)) }
 {
     match *line {
-        Line::CellRead { entity, arch } => {
-            let fields = (text(entity), (arch_text(arch), fixed(b"read")));
+        Line::CellLevel1 { entity, arch } => {
+            let fields = (text(entity), (arch_text(arch), fixed(b"level1")));
             write_fields(buffer, sink, b"cell", &fields)
         }
         Line::CellBroken {
@@ -164,7 +164,7 @@ fn place<'a>(at: Position<'a>) -> (Field<&'a [u8]>, (Field<u64>, Field<u64>))
     ensures line { result.1.0.0 ≡ at.entry.line }
     ensures column { result.1.1.0 ≡ at.entry.column }
 {
-    (text(at.file), (number(at.line), number(at.column)))
+    (fixed(at.file), (number(at.line), number(at.column)))
 }
 
 /// The name of an architecture, or `-` for none.
@@ -188,7 +188,7 @@ fn level_text<'a>(clause: Clause) -> Field<&'a [u8]>
     }
 }
 
-/// A word that is always the same.
+/// A word that is always the same, or bytes of a name.
 fn fixed<'a>(word: &'a [u8]) -> Field<&'a [u8]>
     ensures { result.0.now ≡ word.now }
 {

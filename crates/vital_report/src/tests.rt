@@ -30,11 +30,16 @@ const LEXICAL: [(LexicalWhy, &str); 2] = [
     (LexicalWhy::Unclosed, "refused lexical f.x 12 3 unclosed\n"),
 ];
 
-const LIMITS: [(Limit, &str); 4] = [
+const LIMITS: [(Limit, &str); 9] = [
     (Limit::File, "refused limit file f.x 12 3\n"),
     (Limit::Tokens, "refused limit tokens f.x 12 3\n"),
     (Limit::Nesting, "refused limit nesting f.x 12 3\n"),
     (Limit::Units, "refused limit units f.x 12 3\n"),
+    (Limit::Ports, "refused limit ports f.x 12 3\n"),
+    (Limit::Rows, "refused limit rows f.x 12 3\n"),
+    (Limit::Columns, "refused limit columns f.x 12 3\n"),
+    (Limit::Paths, "refused limit paths f.x 12 3\n"),
+    (Limit::Delay, "refused limit delay f.x 12 3\n"),
 ];
 
 const LIBRARY: [(LibraryWhy, &str); 2] = [
@@ -110,10 +115,10 @@ fn lines_of_cells_are_printed(rt: HostRuntime) -> Result<(), Fail> {
     let alloc = rt.alloc();
     let (entity, arch) = (&name(alloc, b"nand2")?, &name(alloc, b"vital")?);
     for (arch, text) in [
-        (Some(arch), "cell nand2 vital read\n"),
-        (None, "cell nand2 - read\n"),
+        (Some(arch), "cell nand2 vital level1\n"),
+        (None, "cell nand2 - level1\n"),
     ] {
-        assert!(rt; is_printed(alloc, &Line::CellRead { entity, arch }, text)?);
+        assert!(rt; is_printed(alloc, &Line::CellLevel1 { entity, arch }, text)?);
     }
     Ok(())
 }
@@ -137,10 +142,10 @@ fn broken_cell<'a>(
 fn lines_of_broken_cells_are_printed(rt: HostRuntime) -> Result<(), Fail> {
     let alloc = rt.alloc();
     let (entity, arch) = (name(alloc, b"nand2")?, name(alloc, b"vital")?);
-    let file = name(alloc, b"f.x")?;
+    let file = b"f.x";
     for (level, number, text) in BROKEN {
         let at = Position {
-            file: &file,
+            file,
             line: 12,
             column: 3,
         };
@@ -148,7 +153,7 @@ fn lines_of_broken_cells_are_printed(rt: HostRuntime) -> Result<(), Fail> {
         assert!(rt; is_printed(alloc, &broken, text)?);
     }
     let at = Position {
-        file: &file,
+        file,
         line: 12,
         column: 3,
     };
@@ -178,7 +183,7 @@ fn refusals_of_words_and_stimuli_are_printed(rt: HostRuntime) -> Result<(), Fail
 #[test]
 fn refusals_at_places_are_printed(rt: HostRuntime) -> Result<(), Fail> {
     let alloc = rt.alloc();
-    let file = &name(alloc, b"f.x")?;
+    let file = b"f.x";
     let (line, column) = (12, 3);
     let at = Position { file, line, column };
     for (why, text) in LEXICAL {
