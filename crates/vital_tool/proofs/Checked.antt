@@ -1,64 +1,49 @@
 -- What a check printed, as a stage of a run.
-use Rattle.std.proofs.Common.{◌≡◌, ◌≢◌, ℕ, true, false, List, [], ◌∷◌, length, map, slice_get, Some, refl, ap, ◌∙◌, sym}
-use Rattle.std.specs.Prelude.{Bool, cond, is_some, Option}
+use Rattle.std.proofs.Common.{◌≡◌, ◌≢◌, ℕ, true, false, List, ◌++◌, Some, None, ap, ◌∙◌}
+use Rattle.std.specs.Prelude.{Bool, cond, Option}
 use Rattle.std.specs.List.{list_any}
-use Rattle.std.specs.Option.{option_map_or}
-use Rattle.vital_base.specs.declared.breach.Breach.{Breach}
 use Rattle.vital_level0.specs.Breaches.{HasOneFirst}
-use Rattle.vital_library.specs.Units.{archs_of, archs_of_entity, entities}
-use Rattle.vital_nodes.specs.declared.unit.Arch.{Arch}
-use Rattle.vital_nodes.specs.declared.unit.Entity.{Entity}
+use Rattle.vital_level1.specs.declared.level.CellLevel.{CellLevel}
+use Rattle.vital_limits.specs.declared.passed.PassedLimit.{PassedLimit}
 use Rattle.vital_nodes.specs.declared.unit.Units.{Units}
 use Rattle.vital_report.specs.Reporters.{PrinterState, Printed, Stopped}
 use Rattle.vital_tool.specs.Answer.{Answer, text_of}
-use Rattle.vital_tool.specs.Cells.{AreFirst, Finding, IsCellsAnswer, arch_line, arch_lines, cell_lines, cells_answer, entity_lines, entity_lines_at, status_of}
+use Rattle.vital_tool.specs.Cells.{AreJudged, IsCellsAnswer, cells, cells_answer, is_below_level1, level_lines, limit_lines, status_of}
 use Rattle.vital_tool.specs.Outcome.{Stage}
 use Rattle.vital_tool.specs.declared.status.Status.TheVariants.{Done, Found, ReadFault, WriteFault}
-use Rattle.vital_tool.proofs.Judged.{one_list}
+use Rattle.vital_tool.proofs.Judged.{one_finding}
 use Rattle.vital_tool.proofs.Printing.{stage_for, stage_prints, stage_stops}
 use Rattle.vital_words.specs.declared.job.NamedFile.{NamedFile}
 
-no_read_fault : (found : Bool) → cond found Found Done ≢ ReadFault
-no_read_fault true e = cc
-no_read_fault false e = cc
+found_or_done : (found : Bool) → (cond found Found Done ≢ ReadFault) × (cond found Found Done ≢ WriteFault)
+found_or_done true = (λ e. absurd cc, λ e. absurd cc)
+found_or_done false = (λ e. absurd cc, λ e. absurd cc)
 
-no_write_fault : (found : Bool) → cond found Found Done ≢ WriteFault
-no_write_fault true e = cc
-no_write_fault false e = cc
+no_fault : (levels : List CellLevel) (limit : Option PassedLimit) → (status_of levels limit ≢ ReadFault) × (status_of levels limit ≢ WriteFault)
+no_fault levels (Some passed) = (λ e. absurd cc, λ e. absurd cc)
+no_fault levels None = found_or_done (list_any is_below_level1 levels)
 
--- each answer is that of these first breaches
-is_answer : HasOneFirst → (files : List NamedFile) (library : List Units) (firsts : List (Option Breach)) → AreFirst (entities library) firsts
-    → (answer : Answer) → IsCellsAnswer files library answer → answer ≡ cells_answer files library firsts
-is_answer one files library firsts are answer is =
-    is.2 ∙ ap (cells_answer files library) (one_list one (entities library) firsts is.0 are is.1)
+-- each answer is that of this finding
+pub is_answer : HasOneFirst → (files : List NamedFile) (library : List Units) (levels : List CellLevel) (limit : Option PassedLimit) → AreJudged (cells library) levels limit
+    → (answer : Answer) → IsCellsAnswer files library answer → answer ≡ cells_answer files (cells library) levels limit
+is_answer one files library levels limit are answer is =
+    let same = one_finding one (cells library) levels is.0 limit is.1 are is.2 in
+    is.3
+    ∙ ap (λ (ls : List CellLevel). cells_answer files (cells library) ls is.1) same.0
+    ∙ ap (λ (p : Option PassedLimit). cells_answer files (cells library) levels p) same.1
 
-pub cells_printed : HasOneFirst → (files : List NamedFile) (library : List Units) (firsts : List (Option Breach)) → AreFirst (entities library) firsts
-    → (old new : PrinterState) → Printed (text_of (cell_lines files library firsts)) old new → Stage (IsCellsAnswer files library) (status_of firsts) old new
-cells_printed one files library firsts are old new printed =
-    let answer = cells_answer files library firsts in
-    let found = list_any is_some firsts in
-    stage_for (λ other. other ≡ answer) (IsCellsAnswer files library) (status_of firsts) old new
-    (stage_prints answer old new (no_read_fault found) (no_write_fault found) printed) (is_answer one files library firsts are)
+abbrev pub cells_text : List NamedFile → List Units → List CellLevel → Option PassedLimit → List ℕ
+cells_text files library levels limit = text_of (level_lines files (cells library) levels) ++ text_of (limit_lines files limit)
 
-pub cells_stopped : HasOneFirst → (files : List NamedFile) (library : List Units) (firsts : List (Option Breach)) → AreFirst (entities library) firsts
-    → (old new : PrinterState) → old.stopped ≡ false → Stopped (text_of (cell_lines files library firsts)) old new → Stage (IsCellsAnswer files library) WriteFault old new
-cells_stopped one files library firsts are old new going stopped =
-    let answer = cells_answer files library firsts in
-    stage_for (λ other. other ≡ answer) (IsCellsAnswer files library) WriteFault old new
-    (stage_stops answer old new going stopped) (is_answer one files library firsts are)
+pub cells_printed : HasOneFirst → (files : List NamedFile) (library : List Units) (levels : List CellLevel) (limit : Option PassedLimit) → AreJudged (cells library) levels limit
+    → (old new : PrinterState) → Printed (cells_text files library levels limit) old new → Stage (IsCellsAnswer files library) (status_of levels limit) old new
+cells_printed one files library levels limit are old new printed =
+    let answer = cells_answer files (cells library) levels limit in
+    let well = no_fault levels limit in
+    stage_for (λ other. other ≡ answer) (IsCellsAnswer files library) (status_of levels limit) old new (stage_prints answer old new well.0 well.1 printed) (is_answer one files library levels limit are)
 
-arch_lines-some : (name : List ℕ) (found : Option Finding) (archs : List Arch) → (length archs ≡ 0 → ⊥) → arch_lines name found archs ≡ map (arch_line name found) archs
-arch_lines-some name found [] some = absurd (some refl)
-arch_lines-some name found (arch ∷ archs) some = refl
-
--- the lines of an entity that has architectures
-pub lines_of_archs : (library : List Units) (found : Option Finding) (number : ℕ) (entity : Entity) → slice_get (entities library) number ≡ Some entity
-    → (length (archs_of_entity number library) ≡ 0 → ⊥)
-    → text_of (map (arch_line entity.identifier.name found) (archs_of_entity number library)) ≡ text_of (entity_lines_at library found number)
-lines_of_archs library found number entity at some =
-    let name = entity.identifier.name in
-    let archs = archs_of name library in
-    let are : archs_of_entity number library ≡ archs = ap (λ (e : Option Entity). option_map_or (λ x. archs_of x.identifier.name library) e []) at in
-    let lines : entity_lines_at library found number ≡ arch_lines name found archs = ap (λ (e : Option Entity). option_map_or (entity_lines library found) e []) at in
-    ap (λ (xs : List Arch). text_of (map (arch_line name found) xs)) are
-    ∙ ap text_of (sym (lines ∙ arch_lines-some name found archs (λ none. some (ap length are ∙ none))))
+pub cells_stopped : HasOneFirst → (files : List NamedFile) (library : List Units) (levels : List CellLevel) (limit : Option PassedLimit) → AreJudged (cells library) levels limit
+    → (old new : PrinterState) → old.stopped ≡ false → Stopped (cells_text files library levels limit) old new → Stage (IsCellsAnswer files library) WriteFault old new
+cells_stopped one files library levels limit are old new going stopped =
+    let answer = cells_answer files (cells library) levels limit in
+    stage_for (λ other. other ≡ answer) (IsCellsAnswer files library) WriteFault old new (stage_stops answer old new going stopped) (is_answer one files library levels limit are)

@@ -1,44 +1,77 @@
--- The first breaches of entities, one after the other; there is exactly one list of them.
-use Rattle.std.proofs.Common.{◌≡◌, ℕ, zero, suc, ◌+◌, List, [], ◌∷◌, ◌++◌, length, take, slice_get, Some, refl, sym, ap, subst, ◌∙◌, add-one, arith}
+-- What is found in cells, one after the other; there is exactly one such finding.
+use Rattle.std.proofs.Common.{◌≡◌, ◌≤◌, List, [], ◌∷◌, ◌++◌, length, Some, None, Ok, Err, refl, sym, ap, ◌∙◌, arith}
 use Rattle.std.specs.Prelude.{Option}
-use Rattle.std.proofs.lemmas.Option.{slice_get_within}
 use Rattle.vital_base.specs.declared.breach.Breach.{Breach}
-use Rattle.vital_level0.specs.Breaches.{HasOneFirst, IsFirst}
-use Rattle.vital_nodes.specs.declared.unit.Entity.{Entity}
-use Rattle.vital_tool.specs.Cells.{AreFirst}
+use Rattle.vital_level0.specs.Breaches.{HasOneFirst}
+use Rattle.vital_level1.specs.Breaches.{first_breach}
+use Rattle.vital_level1.specs.Verdicts.{IsLevel, IsVerdict, level_by}
+use Rattle.vital_level1.specs.declared.level.CellError.TheVariants as cell_error
+use Rattle.vital_level1.specs.declared.level.CellLevel.{CellLevel}
+use Rattle.vital_limits.specs.CellLimits.{cell_limit}
+use Rattle.vital_limits.specs.declared.passed.PassedLimit.{PassedLimit}
+use Rattle.vital_names.specs.Sites.{Cell}
+use Rattle.vital_tool.specs.Cells.{AreJudged}
 
-more : (es : List Entity) (i : ℕ) (fs : List (Option Breach)) (e : Entity) (f : Option Breach) → slice_get es i ≡ Some e → AreFirst (take i es) fs → IsFirst e f → AreFirst (take (suc i) es) (fs ++ f ∷ [])
-more [] i fs e f at are is = absurd (omega (arith, slice_get_within [] i e at))
-more (x ∷ xs) zero [] e f at are is = let same : x ≡ e = cc in (subst (λ (y : Entity). IsFirst y f) (sym same) is, tt)
-more (x ∷ xs) zero (g ∷ gs) e f at are is = absurd are
-more (x ∷ xs) (suc i) [] e f at are is = absurd are
-more (x ∷ xs) (suc i) (g ∷ gs) e f at are is = (are.0, more xs i gs e f at are.1 is)
+-- one cell more
+pub more : (cs : List Cell) (ls : List CellLevel) (c : Cell) (l : CellLevel) → AreJudged cs ls None → IsVerdict c (Ok l) → AreJudged (cs ++ c ∷ []) (ls ++ l ∷ []) None
+more [] [] c l are is = (is, tt)
+more [] (m ∷ ms) c l are is = absurd are
+more (x ∷ xs) [] c l are is = absurd are
+more (x ∷ xs) (m ∷ ms) c l are is = (are.0, more xs ms c l are.1 is)
 
--- one entity more
-pub one_more : (es : List Entity) (i : ℕ) (fs : List (Option Breach)) (e : Entity) (f : Option Breach) → slice_get es i ≡ Some e → AreFirst (take i es) fs → IsFirst e f → AreFirst (take (i + 1) es) (fs ++ f ∷ [])
-one_more es i fs e f at are is = rw (add-one i) (more es i fs e f at are is)
+-- the first cell that passes a limit is the last that is judged
+pub ended : (cs others : List Cell) (ls : List CellLevel) (c : Cell) (p : PassedLimit) → AreJudged cs ls None → IsVerdict c (Err (cell_error.Limit p)) → AreJudged (cs ++ c ∷ others) ls (Some p)
+ended [] others [] c p are is = is
+ended [] others (m ∷ ms) c p are is = absurd are
+ended (x ∷ xs) others [] c p are is = absurd are
+ended (x ∷ xs) others (m ∷ ms) c p are is = (are.0, ended xs others ms c p are.1 is)
 
-pub one_each : (es : List Entity) (fs : List (Option Breach)) → AreFirst es fs → length fs ≡ length es
-one_each [] [] are = refl
-one_each [] (f ∷ fs) are = absurd are
-one_each (e ∷ es) [] are = absurd are
-one_each (e ∷ es) (f ∷ fs) are = ap (λ n. suc n) (one_each es fs are.1)
+pub at_most : (cs : List Cell) (ls : List CellLevel) (limit : Option PassedLimit) → AreJudged cs ls limit → length ls ≤ length cs
+at_most [] [] limit are = omega arith
+at_most [] (l ∷ ls) limit are = absurd are
+at_most (c ∷ cs) [] limit are = omega arith
+at_most (c ∷ cs) (l ∷ ls) limit are = let others = at_most cs ls limit are.1 in omega (arith, others)
 
--- the list of entities has one list of first breaches
-pub one_list : HasOneFirst → (es : List Entity) (fs gs : List (Option Breach)) → AreFirst es fs → AreFirst es gs → gs ≡ fs
-one_list one [] [] [] are also = refl
-one_list one [] [] (g ∷ gs) are also = absurd also
-one_list one [] (f ∷ fs) gs are also = absurd are
-one_list one (e ∷ es) [] gs are also = absurd are
-one_list one (e ∷ es) (f ∷ fs) [] are also = absurd also
-one_list one (e ∷ es) (f ∷ fs) (g ∷ gs) are also =
-    let first = one e in
-    let same : g ≡ f = first.2 g also.0 ∙ sym (first.2 f are.0) in
-    ap (λ (x : Option Breach). x ∷ gs) same ∙ ap (λ (xs : List (Option Breach)). f ∷ xs) (one_list one es fs gs are.1 also.1)
+-- ---- one finding
 
-pub some_list : HasOneFirst → (es : List Entity) → (fs : List (Option Breach)) × AreFirst es fs
-some_list one [] = ([], tt)
-some_list one (e ∷ es) =
-    let first = one e in
-    let others = some_list one es in
-    (first.0 ∷ others.0, (first.1, others.1))
+one_level : HasOneFirst → (c : Cell) (a b : CellLevel) → IsLevel c a → IsLevel c b → b ≡ a
+one_level one c a b is also =
+    let first = one c.entity in
+    let same : also.0 ≡ is.0 = first.2 also.0 also.1 ∙ sym (first.2 is.0 is.1) in
+    also.2 ∙ ap (λ (f : Option Breach). level_by f (first_breach c)) same ∙ sym is.2
+
+not_both : (c : Cell) (p : PassedLimit) → cell_limit c ≡ None → cell_limit c ≡ Some p → ⊥
+not_both c p none some = let e : None ≡ Some p = sym none ∙ some in cc
+
+pub one_finding : HasOneFirst → (cs : List Cell) (ls ms : List CellLevel) (a b : Option PassedLimit) → AreJudged cs ls a → AreJudged cs ms b → (ms ≡ ls) × (b ≡ a)
+one_finding one [] [] [] None None are also = (refl, refl)
+one_finding one [] [] [] None (Some q) are also = absurd also
+one_finding one [] [] [] (Some p) b are also = absurd are
+one_finding one [] [] (m ∷ ms) a b are also = absurd also
+one_finding one [] (l ∷ ls) ms a b are also = absurd are
+one_finding one (c ∷ cs) [] ms None b are also = absurd are
+one_finding one (c ∷ cs) [] [] (Some p) None are also = absurd also
+one_finding one (c ∷ cs) [] [] (Some p) (Some q) are also = (refl, sym also ∙ are)
+one_finding one (c ∷ cs) [] (m ∷ ms) (Some p) b are also = absurd (not_both c p also.0.0 are)
+one_finding one (c ∷ cs) (l ∷ ls) [] a None are also = absurd also
+one_finding one (c ∷ cs) (l ∷ ls) [] a (Some q) are also = absurd (not_both c q are.0.0 also)
+one_finding one (c ∷ cs) (l ∷ ls) (m ∷ ms) a b are also =
+    let others = one_finding one cs ls ms a b are.1 also.1 in
+    let first = one_level one c l m are.0.1 also.0.1 in
+    (ap (λ (x : CellLevel). x ∷ ms) first ∙ ap (λ (xs : List CellLevel). l ∷ xs) others.0, others.1)
+
+-- ---- there is one
+
+abbrev Finding : List Cell → Type 0
+Finding cs = (ls : List CellLevel) × (limit : Option PassedLimit) × AreJudged cs ls limit
+
+some_first : HasOneFirst → (c : Cell) (cs : List Cell) → Finding cs → (o : Option PassedLimit) → cell_limit c ≡ o → Finding (c ∷ cs)
+some_first one c cs others (Some p) is = ([], Some p, is)
+some_first one c cs others None is =
+    let first = one c.entity in
+    let level = level_by first.0 (first_breach c) in
+    (level ∷ others.0, others.1, ((is, (first.0, first.1, refl)), others.2))
+
+pub some_finding : HasOneFirst → (cs : List Cell) → (ls : List CellLevel) × (limit : Option PassedLimit) × AreJudged cs ls limit
+some_finding one [] = ([], None, tt)
+some_finding one (c ∷ cs) = some_first one c cs (some_finding one cs) (cell_limit c) refl

@@ -7,7 +7,7 @@ use Rattle.vital_base.specs.declared.place.Place.{Place}
 use Rattle.vital_level0.specs.Breaches.{HasOneFirst}
 use Rattle.vital_library.specs.Faults.{least_of, faults}
 use Rattle.vital_library.specs.Gathered.{gathered, limited, judged, refusal}
-use Rattle.vital_library.specs.Units.{entities, units_of}
+use Rattle.vital_library.specs.Units.{units_of}
 use Rattle.vital_library.specs.declared.error.LibraryError.{LibraryError}
 use Rattle.vital_library.specs.declared.error.LibraryError.TheVariants as library
 use Rattle.vital_library.specs.declared.error.TheConstants.{MOST_UNITS}
@@ -21,7 +21,7 @@ use Rattle.vital_stim.specs.Stimuli.{stim}
 use Rattle.vital_stim.specs.declared.fault.StimFault.{StimFault}
 use Rattle.vital_stim.specs.declared.stimuli.Stimuli.{Stimuli}
 use Rattle.vital_tool.specs.Answer.{Answer, ◌>>=◌, text_of, refused, not_there}
-use Rattle.vital_tool.specs.Cells.{IsCellsAnswer, cells_answer}
+use Rattle.vital_tool.specs.Cells.{IsCellsAnswer, cells, cells_answer}
 use Rattle.vital_tool.specs.Loading.{all_loaded}
 use Rattle.vital_tool.specs.Outcome.{Gives, memory_failed}
 use Rattle.vital_tool.specs.Play.{port_signal}
@@ -36,7 +36,8 @@ use Rattle.vital_tool.specs.declared.refusal.Refusal.{Refusal}
 use Rattle.vital_tool.specs.declared.refusal.Refusal.TheVariants as refusals
 use Rattle.vital_tool.specs.declared.status.Status.{Status}
 use Rattle.vital_tool.specs.declared.status.Status.TheVariants.{Done, Stimulus, NoMemory}
-use Rattle.vital_tool.proofs.Judged.{one_list, some_list}
+use Rattle.vital_tool.proofs.Checked.{is_answer}
+use Rattle.vital_tool.proofs.Judged.{some_finding}
 use Rattle.vital_tool.proofs.OneRun.{one_run, started, stimuli_run}
 use Rattle.vital_tool.proofs.Texts.{appended-nil}
 use Rattle.vital_vhdl.specs.Outcomes.{IsReading}
@@ -138,11 +139,8 @@ one_play_answer until None source = one_is not_there
 
 one_cells_answer : HasOneFirst → (files : List NamedFile) (library : List Units) → IsOne (IsCellsAnswer files library)
 one_cells_answer first files library =
-    let judged = some_list first (entities library) in (
-      cells_answer files library judged.0,
-      (judged.0, judged.1, refl),
-      λ other o. o.2 ∙ ap (cells_answer files library) (one_list first (entities library) judged.0 o.0 judged.1 o.1),
-    )
+    let found = some_finding first (cells library) in
+    (cells_answer files (cells library) found.0 found.1, (found.0, found.1, found.2, refl), is_answer first files library found.0 found.1 found.2)
 
 one_task_answer : HasOneFirst → (task : Task) (files : List NamedFile) (sources : List Source) (library : List Units) → IsOne (IsTaskAnswer task files sources library)
 one_task_answer first (Play play) files sources library = one_play_answer play.until (slice_get files play.stim) (slice_get sources play.stim)

@@ -90,3 +90,9 @@ pub run_stops : (ports : List PortBit) (ds : List Driver) (until : ℕ) (start n
     → Stopped (text_of (port_lines ports ds until)) start next
 run_stops ports ds until start next p =
     subst (λ (text : List ℕ). Stopped text start next) (sym (run_text ports ds until)) (stopped_within (bytes_of version) (after_version ports ds until) start next p)
+
+-- ---- two pieces one after the other
+
+pub prints_both : {T E : Type 0} (r : Result T E) (first second : List ℕ) (start now next : PrinterState) → Printed first start now → Prints r second now next → Prints r (first ++ second) start next
+prints_both (Ok x) first second start now next p w = printed_then first second start now next p w
+prints_both (Err e) first second start now next p w = stopped_then first second start now next p w

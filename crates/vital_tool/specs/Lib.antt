@@ -8,9 +8,8 @@ pub mod Refusals
 pub mod Reading
 pub mod Stimuli
 pub mod Cells
-pub mod Findings
+pub mod Kept
 pub mod Stages
 pub mod Given
 pub mod Outcome
 pub mod Ports
-pub mod Placed

@@ -1,137 +1,127 @@
 //! The lines of the cells of a library.
 
-ghost use Rattle.std.specs.Prelude.{◌≡◌, ◌<◌, false, length, map, All};
-ghost use Rattle.std.specs.Option.{option_map};
-ghost use Rattle.vital_library.specs.Units.{archs_of_entity, entities};
+ghost use Rattle.std.specs.Prelude.{◌≡◌, ◌≤◌, ◌++◌, false, length, map, List};
+ghost use Rattle.vital_nodes.specs.declared.unit.Units.{Units};
 ghost use Rattle.vital_report.specs.Lines.{said};
 ghost use Rattle.vital_report.specs.Reporters.{Prints};
 ghost use Rattle.vital_tool.specs.Answer.{text_of};
-ghost use Rattle.vital_tool.specs.Cells.{IsCellsAnswer, arch_line, cell_line, cell_lines, entity_lines_at, finding_of};
-ghost use Rattle.vital_tool.specs.Findings.{shown};
+ghost use Rattle.vital_tool.specs.Cells.{IsCellsAnswer, level_line as level_line', level_lines, limit_line as limit_line', limit_lines, printed_limit as printed_limit'};
+ghost use Rattle.vital_tool.specs.Kept.{lent};
 ghost use Rattle.vital_tool.specs.Outcome.{Stage};
-ghost use Rattle.vital_tool.specs.Placed.{ArePlaced, BreachIsPlaced};
 
-use crate::judging::{first_breaches, status_of};
+use crate::judging::{Cell, cells_of_library, judge, status_of};
 use crate::refusal::position_of;
 use crate::status::Status;
 use std::alloc::Global;
-use vital_base::{Breach, Clause, Name, Sink, WriteFault};
+use vital_base::{Sink, WriteFault};
 use vital_level0::one_first_breach;
+use vital_level1::CellLevel;
 use vital_library::Library;
-use vital_nodes::walked_in_preorder;
-use vital_report::{Line, Position, Printer};
+use vital_limits::{CellLimit, PassedLimit};
+use vital_report::{Limit, Line, Printer};
 use vital_words::NamedFile;
 
-/// A breach as it is printed.
-#[derive(Clone, Copy, Debug)]
-struct Finding<'a> {
-    clause: Clause,
-    at: Position<'a>,
-}
-
-/// Judges the cells of a library that was read from these files, and prints a line for each of them.
+/// Judges the cells of a library that was read from these files, and prints a line for each of them; or, for the first that passes a
+/// limit, its refusal, which ends the check.
 pub fn check_cells<K: Sink>(
     alloc: Global,
     files: &[NamedFile],
     library: &Library,
     printer: &mut Printer<'_, K>,
 ) -> Status
-    requires placed { ArePlaced (length files.now) library.now }
     requires goes_on { printer.old.stopped ≡ false }
     ensures { Stage (IsCellsAnswer files.now library.now) result printer.old printer.new }
 {
     one_first_breach();
-    walked_in_preorder();
-    let Ok(firsts) = first_breaches(alloc, library) else {
+    let Ok(cells) = cells_of_library(alloc, library) else {
         return Status::NoMemory;
     };
-    match print_cells(files, library, &firsts, printer) {
-        Ok(()) => status_of(&firsts),
+    let Ok(judged) = judge(alloc, library, &cells) else {
+        return Status::NoMemory;
+    };
+    match print_cells(files, &cells, &judged.levels, judged.limit, printer) {
+        Ok(()) => status_of(&judged),
         Err(WriteFault) => Status::WriteFault,
     }
 }
 
-/// Prints the lines of all entities, of which these are the first breaches.
-fn print_cells<'a, K: Sink>(
-    files: &'a [NamedFile],
-    library: &'a Library,
-    firsts: &[Option<Breach>],
+/// Prints the lines of the first of some cells, which have these levels, and the refusal of the next, if it passes a limit.
+fn print_cells<K: Sink>(
+    files: &[NamedFile],
+    cells: &[Cell<'_>],
+    levels: &[CellLevel],
+    limit: Option<PassedLimit>,
     printer: &mut Printer<'_, K>,
 ) -> Result<(), WriteFault>
-    requires one_each { length firsts.now ≡ length (entities library.now) }
-    requires placed { All (BreachIsPlaced (length files.now)) firsts.now }
+    requires within { length levels.now ≤ length cells.now }
     requires goes_on { printer.old.stopped ≡ false }
-    ensures { Prints result (text_of (cell_lines files.now library.now firsts.now)) printer.old printer.new }
+    ensures { (library : List Units) → Prints result
+        (text_of (level_lines files.now (map (lent library) cells.now) levels.now) ++ text_of (limit_lines files.now limit)) printer.old printer.new }
 {
-    for entity in 0..library.entity_count() {
-        let finding = finding_of(files, firsts[entity as usize]);
-        print_entity(library, entity, finding, printer)?;
+    print_levels(files, cells, levels, printer)?;
+    match limit {
+        Some(passed) => printer.print(&limit_line(files, passed)),
+        None => Ok(()),
+    }
+}
+
+/// Prints the lines of the first of some cells, which have these levels.
+fn print_levels<K: Sink>(
+    files: &[NamedFile],
+    cells: &[Cell<'_>],
+    levels: &[CellLevel],
+    printer: &mut Printer<'_, K>,
+) -> Result<(), WriteFault>
+    requires within { length levels.now ≤ length cells.now }
+    requires goes_on { printer.old.stopped ≡ false }
+    ensures { (library : List Units) → Prints result (text_of (level_lines files.now (map (lent library) cells.now) levels.now)) printer.old printer.new }
+{
+    for number in 0..levels.len() {
+        let line = level_line(files, cells[number], levels[number]);
+        printer.print(&line)?;
     }
     Ok(())
 }
 
-/// A first breach as it is printed.
-fn finding_of<'a>(files: &'a [NamedFile], first: Option<Breach>) -> Option<Finding<'a>>
-    requires { BreachIsPlaced (length files.now) first }
-    ensures { option_map shown result ≡ option_map (finding_of files.now) first }
+/// The line of a cell with this level.
+fn level_line<'a>(files: &'a [NamedFile], cell: Cell<'a>, level: CellLevel) -> Line<'a>
+    ensures { (library : List Units) → said result ≡ level_line' files.now (lent library cell.entry) level }
 {
-    match first {
-        Some(breach) => Some(Finding {
-            clause: breach.clause,
-            at: position_of(files, breach.place),
-        }),
+    let entity = cell.entity.identifier.name.as_name();
+    let arch = match cell.arch {
+        Some(arch) => Some(arch.identifier.name.as_name()),
         None => None,
-    }
-}
-
-/// Prints the lines of the entity of a number.
-fn print_entity<'a, K: Sink>(
-    library: &'a Library,
-    entity: u32,
-    finding: Option<Finding<'a>>,
-    printer: &mut Printer<'_, K>,
-) -> Result<(), WriteFault>
-    requires there { entity < length (entities library.now) }
-    requires goes_on { printer.old.stopped ≡ false }
-    ensures { Prints result (text_of (entity_lines_at library.now (option_map shown finding.entry) entity)) printer.old printer.new }
-{
-    let name = library.entity(entity).identifier.name.as_name();
-    if library.arch_count(entity) == 0 {
-        return printer.print(&line_of(name, finding, None));
-    }
-    print_archs(library, entity, name, finding, printer)
-}
-
-/// Prints the lines of the architectures of the entity of a number, which has this name.
-fn print_archs<'a, K: Sink>(
-    library: &'a Library,
-    entity: u32,
-    name: &'a Name,
-    finding: Option<Finding<'a>>,
-    printer: &mut Printer<'_, K>,
-) -> Result<(), WriteFault>
-    requires there { entity < length (entities library.now) }
-    requires goes_on { printer.old.stopped ≡ false }
-    ensures { Prints result (text_of (map (arch_line name.now (option_map shown finding.entry)) (archs_of_entity entity library.now))) printer.old printer.new }
-{
-    for arch in 0..library.arch_count(entity) {
-        let arch_name = library.arch(entity, arch).identifier.name.as_name();
-        printer.print(&line_of(name, finding, Some(arch_name)))?;
-    }
-    Ok(())
-}
-
-/// The line of a cell.
-fn line_of<'a>(entity: &'a Name, finding: Option<Finding<'a>>, arch: Option<&'a Name>) -> Line<'a>
-    ensures { said result ≡ cell_line entity.now (option_map shown finding.entry) (option_map (λ name. name.now) arch.entry) }
-{
-    match finding {
-        Some(Finding { clause, at }) => Line::CellBroken {
+    };
+    match level {
+        CellLevel::Level1 => Line::CellLevel1 { entity, arch },
+        CellLevel::Level0(breach) | CellLevel::Neither(breach) => Line::CellBroken {
             entity,
             arch,
-            clause,
-            at,
+            clause: breach.clause,
+            at: position_of(files, breach.place),
         },
-        None => Line::CellRead { entity, arch },
+    }
+}
+
+/// The line that refuses a cell which passes this limit.
+fn limit_line<'a>(files: &'a [NamedFile], passed: PassedLimit) -> Line<'a>
+    ensures { said result ≡ limit_line' files.now passed }
+{
+    Line::RefusedLimit {
+        limit: printed_limit(passed.limit),
+        at: position_of(files, passed.place),
+    }
+}
+
+/// A limit of a cell, as it is printed.
+fn printed_limit(limit: CellLimit) -> Limit
+    ensures { result ≡ printed_limit' limit }
+{
+    match limit {
+        CellLimit::Ports => Limit::Ports,
+        CellLimit::Rows => Limit::Rows,
+        CellLimit::Columns => Limit::Columns,
+        CellLimit::Paths => Limit::Paths,
+        CellLimit::Delay => Limit::Delay,
     }
 }

@@ -28,7 +28,7 @@ pub fn refuse_long<K: Sink>(file: &Name, printer: &mut Printer<'_, K>) -> Status
     ensures { Stage (λ answer. answer ≡ too_long file.now) result printer.old printer.new }
 {
     let at = Position {
-        file,
+        file: file.as_slice(),
         line: 0,
         column: 0,
     };

@@ -1,11 +1,10 @@
 //! How words and files are refused.
 
-ghost use Rattle.std.specs.Prelude.{◌≡◌, false, length};
+ghost use Rattle.std.specs.Prelude.{◌≡◌, false};
 ghost use Rattle.vital_report.specs.Lines.{spot};
 ghost use Rattle.vital_tool.specs.Refusals.{place_of, printed_usage, refused_at, refused_words, spot_of};
 ghost use Rattle.vital_tool.specs.Given.{GivesRefusal};
 ghost use Rattle.vital_tool.specs.Outcome.{Stage};
-ghost use Rattle.vital_tool.specs.Placed.{IsPlaced};
 
 use crate::lines::refuse;
 use crate::status::Status;
@@ -48,7 +47,6 @@ pub fn refuse_files<K: Sink>(
     refusal: Refusal,
     printer: &mut Printer<'_, K>,
 ) -> Status
-    requires placed { IsPlaced (length files.now) (place_of refusal) }
     requires goes_on { printer.old.stopped ≡ false }
     ensures { Stage (λ answer. answer ≡ refused_at files.now refusal) result printer.old printer.new }
 {
@@ -75,11 +73,14 @@ pub fn refuse_files<K: Sink>(
 
 /// A place in one of these files as it is printed, with the name of its file.
 pub fn position_of<'a>(files: &'a [NamedFile], place: Place) -> Position<'a>
-    requires { IsPlaced (length files.now) place }
     ensures { spot result ≡ spot_of files.now place }
 {
+    let file: &[u8] = match files.get(place.file as usize) {
+        Some(file) => file.name.as_slice(),
+        None => b"",
+    };
     Position {
-        file: &files[place.file as usize].name,
+        file,
         line: place.line,
         column: place.column,
     }

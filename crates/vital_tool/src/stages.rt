@@ -4,7 +4,6 @@ ghost use Rattle.std.specs.Prelude.{◌≡◌, ◌≤◌, false, length, All, Ok
 ghost use Rattle.vital_library.specs.Gathered.{gathered};
 ghost use Rattle.vital_tool.specs.Loading.{OpensFiles, all_loaded};
 ghost use Rattle.vital_tool.specs.Outcome.{Runs, Stage};
-ghost use Rattle.vital_tool.specs.Placed.{ArePlaced};
 ghost use Rattle.vital_tool.specs.Stages.{IsLibraryAnswer, IsLoadedAnswer, IsTaskAnswer};
 ghost use Rattle.vital_words.specs.Given.{NamesIn};
 
@@ -19,7 +18,7 @@ use std::alloc::Global;
 use vital_base::{List, Shelf, Sink};
 use vital_library::{Library, gather};
 use vital_report::Printer;
-use vital_vhdl::{Units, one_reading, units_stand, vhdl_rules};
+use vital_vhdl::{Units, one_reading, vhdl_rules};
 use vital_words::{Job, Task};
 
 /// Runs a job: its files are loaded, and then come the other stages.
@@ -59,7 +58,6 @@ fn run_sources<K: Sink>(
     ensures { Stage (IsLoadedAnswer job.now (Ok sources.now)) result printer.old printer.new }
 {
     one_reading();
-    units_stand();
     let Ok(rules) = vhdl_rules(alloc) else {
         return Status::NoMemory;
     };
@@ -80,7 +78,6 @@ fn run_units<K: Sink>(
 ) -> Status
     requires within { All (λ source. length source.text ≤ 16_777_216) sources.now }
     requires count { length sources.now ≡ length job.now.files }
-    requires placed { ArePlaced (length job.now.files) units }
     requires names_in { NamesIn job.now }
     requires goes_on { printer.old.stopped ≡ false }
     ensures { Stage (IsLibraryAnswer job.now sources.now (gathered units)) result printer.old printer.new }
@@ -104,7 +101,6 @@ fn run_task<K: Sink>(
 ) -> Status
     requires within { All (λ source. length source.text ≤ 16_777_216) sources.now }
     requires count { length sources.now ≡ length job.now.files }
-    requires placed { ArePlaced (length job.now.files) library.now }
     requires names_in { NamesIn job.now }
     requires goes_on { printer.old.stopped ≡ false }
     ensures { Stage (IsTaskAnswer job.now.task job.now.files sources.now library.now) result printer.old printer.new }

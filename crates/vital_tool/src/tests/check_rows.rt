@@ -67,7 +67,28 @@ begin
 end OR2;
 ";
 
-pub const ROWS: [Row; 22] = [
+/// A cell of Level 1, one without the attribute of Level 1, and an entity without an architecture.
+const THREE_CELLS: &str = "entity E is attribute VITAL_LEVEL0 of E : entity is TRUE; end;
+architecture V of E is attribute VITAL_LEVEL1 of V : architecture is TRUE; begin end;
+architecture W of E is begin end;
+entity F is attribute VITAL_LEVEL0 of F : entity is TRUE; end;
+";
+
+const THREE_LINES: &str =
+    "cell e v level1\ncell e w level0 L1.1 a 3 14\ncell f - level0 L1.1 a 4 8\n";
+
+/// The same, where the third cell has a time above 2^50 fs: it ends the check.
+const LIMITED: &str = "entity E is attribute VITAL_LEVEL0 of E : entity is TRUE; end;
+architecture V of E is attribute VITAL_LEVEL1 of V : architecture is TRUE; begin end;
+architecture W of E is begin end;
+architecture X of E is constant D : Time := 2 sec; begin end;
+entity F is end;
+";
+
+const LIMITED_LINES: &str =
+    "cell e v level1\ncell e w level0 L1.1 a 3 14\nrefused limit delay a 4 45\n";
+
+pub const ROWS: [Row; 24] = [
     (&["check"], &[], "refused usage 2 missing\n", 2),
     (&["check", "lib="], &[], "refused usage 2 value\n", 2),
     (
@@ -95,13 +116,13 @@ pub const ROWS: [Row; 22] = [
     (
         &["check", "lib=and2.vhd"],
         &[("and2.vhd", AND2)],
-        "cell and2 vital read\n",
+        "cell and2 vital level1\n",
         0,
     ),
     (
         &["check", "lib=and2.vhd", "lib=r.vhd"],
         &[("and2.vhd", AND2), ("r.vhd", RING)],
-        "cell and2 vital read\ncell r s none L0.1 r.vhd 1 8\n",
+        "cell and2 vital level1\ncell r s none L0.1 r.vhd 1 8\n",
         1,
     ),
     (
@@ -128,6 +149,8 @@ pub const ROWS: [Row; 22] = [
         "cell e a none L0.1 a 1 8\n",
         1,
     ),
+    (&["check", "lib=a"], &[("a", THREE_CELLS)], THREE_LINES, 1),
+    (&["check", "lib=a"], &[("a", LIMITED)], LIMITED_LINES, 4),
     (
         &["check", "lib=e.vhd"],
         &[(

@@ -1,42 +1,29 @@
-use Rattle.std.proofs.Common.{arith, ◌<◌, ◌+◌, drop, get_or, length, None}
-use Rattle.std.specs.Option.{option_map}
-use Rattle.std.proofs.lemmas.Option.{slice_get-get_or}
-use Rattle.vital_library.specs.Units.{entities}
+use Rattle.std.proofs.Common.{ℕ, List, [], ◌++◌, map, sym, subst, append-nil}
+use Rattle.vital_report.specs.Lines.{bytes_of}
+use Rattle.vital_report.specs.Reporters.{Printed, Prints}
 use Rattle.vital_tool.specs.Answer.{text_of}
-use Rattle.vital_tool.specs.Cells.{cell_lines, entity_lines_at, finding_of, lines_of}
-use Rattle.vital_tool.proofs.CellsLeft.{one_entity}
-use Rattle.vital_tool.proofs.Parts.{part_goes_on, part_stops, prints_failed}
+use Rattle.vital_tool.specs.Cells.{level_lines, limit_line, limit_lines}
+use Rattle.vital_tool.specs.Kept.{lent}
+use Rattle.vital_tool.proofs.Parts.{prints_both, prints_failed}
+use Rattle.vital_tool.proofs.Texts.{stopped_within}
 use Rattle.vital_tool.proofs.cells.print_cells.Goals as goal
 
-pub returns-in_err-print_entity : goal.returns-in_err-print_entity
-returns-in_err-print_entity g c =
-    let files = c.args.files.now in
-    let library = c.args.library.now in
-    let firsts = c.args.firsts.now in
-    let i = c.loop-entity.entity in
-    let first = get_or firsts i None in
-    let there : i < length (entities library) = rw c.entity_count-entity-end.ensures at c.loop-entity-test.true in
-    let within : i < length firsts = omega (arith, there, c.requires.one_each) in
-    let whole = text_of (cell_lines files library firsts) in
-    let piece = text_of (entity_lines_at library (option_map (finding_of files) first) i) in
-    let rest = text_of (lines_of files library (drop (i + 1) (entities library)) (drop (i + 1) firsts)) in
-    let one = one_entity files library firsts i first there (slice_get-get_or firsts i None within) in
-    let failed = rw c.finding_of-finding.ensures at c.in_err-print_entity.ensures in
-    prints_failed _ c.from_residual.result whole c.args.printer.now c.print_entity.new.printer c.from_residual.ensures.1
-    (part_stops c.args.printer.now whole piece rest c.loop-entity.printer c.print_entity.new.printer (rw one at c.loop-entity.invariant) failed)
+pub returns-in_err-print_levels : goal.returns-in_err-print_levels
+returns-in_err-print_levels g c = λ library.
+    let first = text_of (level_lines c.args.files.now (map (lent library) c.args.cells.now) c.args.levels.now) in
+    let second = text_of (limit_lines c.args.files.now c.args.limit) in
+    prints_failed _ c.from_residual.result (first ++ second) c.args.printer.now c.print_levels.new.printer c.from_residual.ensures.1
+    (stopped_within first second c.args.printer.now c.print_levels.new.printer (c.in_err-print_levels.ensures library))
 
-pub loop-entity-preserved : goal.loop-entity-preserved
-loop-entity-preserved g c =
-    let files = c.args.files.now in
-    let library = c.args.library.now in
-    let firsts = c.args.firsts.now in
-    let i = c.loop-entity.entity in
-    let first = get_or firsts i None in
-    let there : i < length (entities library) = rw c.entity_count-entity-end.ensures at c.loop-entity-test.true in
-    let within : i < length firsts = omega (arith, there, c.requires.one_each) in
-    let whole = text_of (cell_lines files library firsts) in
-    let piece = text_of (entity_lines_at library (option_map (finding_of files) first) i) in
-    let rest = text_of (lines_of files library (drop (i + 1) (entities library)) (drop (i + 1) firsts)) in
-    let one = one_entity files library firsts i first there (slice_get-get_or firsts i None within) in
-    let written = rw c.finding_of-finding.ensures at c.in_ok-print_entity.ensures in
-    part_goes_on c.args.printer.now whole piece rest c.loop-entity.printer c.print_entity.new.printer (rw one at c.loop-entity.invariant) written
+pub returns-in-Some : goal.returns-in-Some
+returns-in-Some g c = λ library.
+    let first = text_of (level_lines c.args.files.now (map (lent library) c.args.cells.now) c.args.levels.now) in
+    let piece = bytes_of (limit_line c.args.files.now c.in-Some.passed) in
+    let printed = rw c.limit_line.ensures at c.print.ensures.prints in
+    let last = subst (λ (text : List ℕ). Prints c.print.result text c.print_levels.new.printer c.print.new.self) (sym (append-nil piece)) printed in
+    rw c.in-Some.is (prints_both c.print.result first (piece ++ []) c.args.printer.now c.print_levels.new.printer c.print.new.self (c.in_ok-print_levels.ensures library) last)
+
+pub returns-in-None : goal.returns-in-None
+returns-in-None g c = λ library.
+    let first = text_of (level_lines c.args.files.now (map (lent library) c.args.cells.now) c.args.levels.now) in
+    rw c.in-None.is (subst (λ (text : List ℕ). Printed text c.args.printer.now c.print_levels.new.printer) (sym (append-nil first)) (c.in_ok-print_levels.ensures library))

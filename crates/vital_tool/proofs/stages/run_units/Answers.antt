@@ -1,16 +1,10 @@
-use Rattle.std.proofs.Common.{◌≡◌, length}
+use Rattle.std.proofs.Common.{◌≡◌}
 use Rattle.vital_library.specs.Gathered.{gathered}
 use Rattle.vital_tool.specs.Refusals.{refused_at}
 use Rattle.vital_tool.specs.Stages.{IsLibraryAnswer}
-use Rattle.vital_tool.proofs.CellsLeft.{library_refused}
-use Rattle.vital_tool.proofs.PlacedFaults.{refusal_is_placed}
+use Rattle.vital_tool.proofs.LibraryRefused.{library_refused}
 use Rattle.vital_tool.proofs.Printing.{stage_for}
 use Rattle.vital_tool.proofs.stages.run_units.Goals as goal
-
-pub refuse_files-requires-clause-placed : goal.refuse_files-requires-clause-placed
-refuse_files-requires-clause-placed g c =
-    rw c.as_slice.ensures
-    (refusal_is_placed (length c.args.job.now.files) c.args.units c.in-Err.error c.in-Some.refusal c.requires.placed c.in-Err.ensures.outcome c.in-Some.ensures)
 
 pub returns-in-Some : goal.returns-in-Some
 returns-in-Some g c =
