@@ -1,3 +1,4 @@
 pub mod Turns
 pub mod Values
 pub mod Lists
+pub mod Inner

@@ -1,7 +1,8 @@
 -- One turn of the walk.
-use Rattle.std.proofs.Common.{◌≡◌, ◌<◌, List, [], ◌∷◌, ◌++◌, length, map, reverse, refl, ap, sym, ◌∙◌, arith, append_assoc}
-use Rattle.std.proofs.lemmas.List.{map-append, reverse-append, reverse-reverse, append-nil}
+use Rattle.std.proofs.Common.{◌≡◌, ℕ, ◌<◌, List, [], ◌∷◌, ◌++◌, length, map, take, drop, reverse, refl, ap, sym, ◌∙◌, arith, append_assoc}
+use Rattle.std.proofs.lemmas.List.{map-append, reverse-append, reverse-reverse, length-map, take-map, drop-map}
 use Rattle.std.proofs.lemmas.Grind.{flat_map-append}
+use Rattle.std.proofs.Math.Seq.{take-append_seam, drop-append_seam}
 use Rattle.vital_nodes.specs.Nodes.{Node, parts_of}
 use Rattle.vital_nodes.specs.Walk.{nodes_of, nodes_of_all}
 use Rattle.vital_walk.specs.declared.node.Node.{Node as Node'}
@@ -15,34 +16,37 @@ map-reverse f (x ∷ xs) =
     ∙ ap (λ ys. ys ++ f x ∷ []) (map-reverse f xs)
     ∙ sym (reverse-append (f x ∷ []) (map f xs))
 
+-- what was put behind a list is reversed there
+pub put-reversed : (n : ℕ) (old mid new : List Node') (us : List Node) → n ≡ length old → map seen mid ≡ map seen old ++ us → new ≡ take n mid ++ reverse (drop n mid) → map seen new ≡ map seen old ++ reverse us
+put-reversed n old mid new us is put turned =
+    ap (map seen) turned
+    ∙ map-append seen (take n mid) (reverse (drop n mid))
+    ∙ ap (λ vs. vs ++ map seen (reverse (drop n mid))) (sym (take-map seen n mid) ∙ ap (take n) put ∙ ap (λ m. take m (map seen old ++ us)) (is ∙ sym (length-map old seen)) ∙ take-append_seam (map seen old) us)
+    ∙ ap (λ vs. map seen old ++ vs) (map-reverse seen (drop n mid) ∙ ap reverse (sym (drop-map seen n mid) ∙ ap (drop n) put ∙ ap (λ m. drop m (map seen old ++ us)) (is ∙ sym (length-map old seen)) ∙ drop-append_seam (map seen old) us))
+
 -- what is still to come, of those that wait
 abbrev pub ahead : List Node' → List Node
 ahead waiting = reverse (map seen waiting)
 
 -- parts that are put on those that wait, the last first, come before them
-pub ahead-put : (waiting parts : List Node') → ahead (waiting ++ reverse parts) ≡ map seen parts ++ ahead waiting
-ahead-put waiting parts =
-    ap reverse (map-append seen waiting (reverse parts))
-    ∙ reverse-append (map seen waiting) (map seen (reverse parts))
-    ∙ ap (λ vs. vs ++ ahead waiting) (ap reverse (map-reverse seen parts) ∙ reverse-reverse (map seen parts))
-
-ahead-last : (waiting : List Node') (v : Node') → ahead (waiting ++ v ∷ []) ≡ seen v ∷ ahead waiting
-ahead-last waiting v = ahead-put waiting (v ∷ [])
+ahead-put : (waiting new : List Node') (parts : List Node) → map seen new ≡ map seen waiting ++ reverse parts → ahead new ≡ parts ++ ahead waiting
+ahead-put waiting new parts put =
+    ap reverse put
+    ∙ reverse-append (map seen waiting) (reverse parts)
+    ∙ ap (λ vs. vs ++ ahead waiting) (reverse-reverse parts)
 
 -- The law of the walk.
 abbrev Law : Type 0
 Law = (v : Node) → nodes_of v ≡ v ∷ nodes_of_all (parts_of v)
 
 -- the node that is taken, and then its parts and those that wait
-pub ahead-taken : Law → (waiting parts old new : List Node') (v : Node') → old ≡ waiting ++ v ∷ [] → map seen parts ≡ parts_of (seen v) → new ≡ waiting ++ reverse parts → nodes_of_all (ahead old) ≡ seen v ∷ nodes_of_all (ahead new)
-ahead-taken law waiting parts old new v popped are put =
+pub ahead-taken : Law → (waiting old new : List Node') (v : Node') → old ≡ waiting ++ v ∷ [] → map seen new ≡ map seen waiting ++ reverse (parts_of (seen v)) → nodes_of_all (ahead old) ≡ seen v ∷ nodes_of_all (ahead new)
+ahead-taken law waiting old new v popped put =
     ap (λ vs. nodes_of_all (ahead vs)) popped
-    ∙ ap nodes_of_all (ahead-last waiting v)
+    ∙ ap nodes_of_all (ahead-put waiting (waiting ++ v ∷ []) (seen v ∷ []) (map-append seen waiting (v ∷ [])))
     ∙ ap (λ vs. vs ++ nodes_of_all (ahead waiting)) (law (seen v))
     ∙ ap (λ vs. seen v ∷ vs) (sym (flat_map-append nodes_of (parts_of (seen v)) (ahead waiting)))
-    ∙ ap (λ vs. seen v ∷ nodes_of_all (vs ++ ahead waiting)) (sym are)
-    ∙ ap (λ vs. seen v ∷ nodes_of_all vs) (sym (ahead-put waiting parts))
-    ∙ ap (λ vs. seen v ∷ nodes_of_all (ahead vs)) (sym put)
+    ∙ ap (λ vs. seen v ∷ nodes_of_all vs) (sym (ahead-put waiting new (parts_of (seen v)) put))
 
 pub fewer : {A : Type 0} (xs ys : List A) (x : A) → xs ≡ x ∷ ys → length ys < length xs
 fewer xs ys x is = omega (arith, ap length is)
@@ -57,8 +61,9 @@ turned taken new v us vs all push next before =
     ∙ before
 
 -- before the first turn all nodes are those of the parts
-pub begun : (taken waiting parts to : List Node') → taken ≡ [] → waiting ≡ [] → to ≡ waiting ++ reverse parts → map seen taken ++ nodes_of_all (ahead to) ≡ nodes_of_all (map seen parts)
-begun taken waiting parts to no_taken no_waiting put =
-    ap (λ ns. map seen ns ++ nodes_of_all (ahead to)) no_taken
-    ∙ ap (λ ns. nodes_of_all (ahead ns)) (put ∙ ap (λ ns. ns ++ reverse parts) no_waiting)
-    ∙ ap nodes_of_all (ahead-put [] parts ∙ append-nil (map seen parts))
+pub begun : (taken waiting parts : List Node') → taken ≡ [] → waiting ≡ reverse parts → map seen taken ++ nodes_of_all (ahead waiting) ≡ nodes_of_all (map seen parts)
+begun taken waiting parts none is =
+    ap (λ ns. map seen ns ++ nodes_of_all (ahead waiting)) none
+    ∙ ap (λ ns. nodes_of_all (ahead ns)) is
+    ∙ ap (λ vs. nodes_of_all (reverse vs)) (map-reverse seen parts)
+    ∙ ap nodes_of_all (reverse-reverse (map seen parts))

@@ -1,6 +1,6 @@
 //! Lists of nodes that grow at their end.
 
-ghost use Rattle.std.specs.Prelude.{◌≡◌, ◌∷◌, [], ◌++◌, map, OnOk};
+ghost use Rattle.std.specs.Prelude.{◌≡◌, ◌≤◌, ◌∷◌, [], ◌++◌, vec_len, take, drop, reverse, map, OnOk};
 ghost use Rattle.vital_nodes.specs.Nodes.{Expression, expression_if_there};
 ghost use Rattle.vital_walk.specs.Seen.{seen};
 
@@ -47,4 +47,12 @@ pub fn put_if_there<'a>(nodes: &mut Vec<Node<'a>>, expr: &'a Option<Expr>) -> Re
         nodes.push(Node::Expression(expr))?;
     }
     Ok(())
+}
+
+/// Reverses the items from a number on.
+pub fn reverse_from<T>(items: &mut Vec<T>, first: usize)
+    requires { first ≤ vec_len items.old }
+    ensures { items.new.items ≡ take first items.old.items ++ reverse (drop first items.old.items) }
+{
+    items[first..].reverse();
 }

@@ -1,11 +1,12 @@
 //! What is made of nodes from their parts upwards.
 
-ghost use Rattle.std.specs.Prelude.{◌≡◌, ◌≤◌, ◌-◌, List, [], ◌∷◌, ◌++◌, length, take, drop, reverse, IfOk, OnOk};
+ghost use Rattle.std.specs.Prelude.{◌≡◌, ◌-◌, List, [], ◌∷◌, ◌++◌, length, take, drop, reverse, IfOk, OnOk};
 ghost use Rattle.vital_nodes.specs.Nodes.{Node as Node'};
 ghost use Rattle.vital_nodes.specs.Walk.{folded};
 ghost use Rattle.vital_walk.specs.Seen.{seen};
 
 use crate::node::Node;
+use crate::put::reverse_from;
 use crate::unit_parts::put_parts;
 use crate::walk::nodes_of;
 use std::alloc::{AllocError, Global};
@@ -23,14 +24,6 @@ pub trait UpwardRule<'a> {
         ensures { IfOk result (λ value. value ≡ step self.now (seen node.entry) parts.now) };
 }
 
-/// Reverses the items from a number on.
-fn reverse_from<T>(items: &mut [T], first: usize)
-    requires { first ≤ length items.old }
-    ensures { items.new ≡ take first items.old ++ reverse (drop first items.old) }
-{
-    items[first..].reverse();
-}
-
 /// Puts the value of a node at the end, in place of those of its parts. As many as it has parts stand there, the first last.
 fn put_value<'a, U: UpwardRule<'a>>(
     values: &mut Vec<U::Value>,
@@ -41,7 +34,7 @@ fn put_value<'a, U: UpwardRule<'a>>(
     ensures { OnOk result (values.new.items ≡ take (length values.old.items - parts) values.old.items ++ U.step rule.now (seen node.entry) (reverse (drop (length values.old.items - parts) values.old.items)) ∷ []) }
 {
     let first = values.len().saturating_sub(parts);
-    reverse_from(values.as_mut_slice(), first);
+    reverse_from(values, first);
     let value = rule.value(node, &values.as_slice()[first..])?;
     values.truncate(first);
     values.push(value)?;

@@ -1,42 +1,39 @@
 //! All nodes of a unit, and of a node.
 
-ghost use Rattle.std.specs.Prelude.{◌≡◌, [], ◌++◌, map, reverse, IfOk, OnOk};
+ghost use Rattle.std.specs.Prelude.{◌≡◌, ◌++◌, map, reverse, IfOk, OnOk};
+ghost use Rattle.vital_nodes.specs.Nodes.{parts_of};
 ghost use Rattle.vital_nodes.specs.Walk.{nodes_of, nodes_of_all, nodes_of_unit};
 ghost use Rattle.vital_nodes.specs.declared.unit.Unit.TheVariants as units;
 ghost use Rattle.vital_walk.specs.Seen.{seen};
 
 use crate::node::Node;
+use crate::put::reverse_from;
 use crate::unit_parts::{put_parts, put_parts_of_arch, put_parts_of_entity, put_parts_of_unit};
 use std::alloc::{AllocError, Global};
 use vital_nodes::{Arch, Entity, Unit, walked_in_preorder};
 
-/// Moves the nodes of one list to the end of another, the last of them first.
-fn put_reversed<'a>(to: &mut Vec<Node<'a>>, from: &mut Vec<Node<'a>>) -> Result<(), AllocError>
-    ensures put { OnOk result (to.new.items ≡ to.old.items ++ reverse from.old.items) }
-    ensures emptied { OnOk result (from.new.items ≡ []) }
+/// Puts the parts of a node at the end, the last of them first.
+fn put_parts_reversed<'a>(waiting: &mut Vec<Node<'a>>, node: Node<'a>) -> Result<(), AllocError>
+    ensures { OnOk result (map seen waiting.new.items ≡ map seen waiting.old.items ++ reverse (parts_of (seen node.entry))) }
 {
-    while let Some(node) = from.pop() {
-        to.push(node)?;
-    }
+    let first = waiting.len();
+    put_parts(waiting, node)?;
+    reverse_from(waiting, first);
     Ok(())
 }
 
 /// The nodes of nodes that stand one behind another, in preorder.
-pub fn nodes_of_all<'a>(
-    alloc: Global,
-    mut parts: Vec<Node<'a>>,
-) -> Result<Vec<Node<'a>>, AllocError>
+pub fn nodes_of_all<'a>(alloc: Global, parts: Vec<Node<'a>>) -> Result<Vec<Node<'a>>, AllocError>
     ensures { IfOk result (λ nodes. map seen nodes.items ≡ nodes_of_all (map seen parts.entry.items)) }
 {
     walked_in_preorder();
     // Those that are still to come, the next one last.
-    let mut waiting = Vec::new(alloc);
-    put_reversed(&mut waiting, &mut parts)?;
+    let mut waiting = parts;
+    waiting.reverse();
     let mut nodes = Vec::new(alloc);
     while let Some(node) = waiting.pop() {
         nodes.push(node)?;
-        put_parts(&mut parts, node)?;
-        put_reversed(&mut waiting, &mut parts)?;
+        put_parts_reversed(&mut waiting, node)?;
     }
     Ok(nodes)
 }
