@@ -94,8 +94,9 @@ impl<'a> Position<'a> {
     pub fn table_items<'e>(&self, name: &'e Reference) -> Option<&'e [Item]>
         ensures { option_copied result ≡ spec.table_items (lent self.now) name.now }
     {
+        let items = only_items(name.suffixes.as_slice())?;
         match self.function_named(&name.identifier) {
-            Some(Function::TruthTable) => only_items(name.suffixes.as_slice()),
+            Some(Function::TruthTable) => Some(items),
             _ => None,
         }
     }
