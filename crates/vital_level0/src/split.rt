@@ -15,6 +15,7 @@ use vital_base::Name;
 /// The parts that the name of a timing generic splits into, among the ports of its entity. None where it does not split. It takes
 /// no memory, and looks a few times at each byte of the name.
 pub fn split_generic(name: &Name, ports: &PortIndex<'_>) -> Option<Parts>
+    ensures parts { result ≡ parts_of_name ports.now name.now }
     ensures found { IfSome result (λ p. IsSplit name.now ports.now p) }
     ensures none { IfNone result (¬ Splits name.now ports.now) }
 {

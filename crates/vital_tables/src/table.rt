@@ -42,6 +42,13 @@ fn allows_row(kind: TableType, inputs: usize, states: usize, row: &[u8]) -> bool
 }
 
 impl Table {
+    /// The rows, each as the symbols of its columns.
+    pub fn rows(&self) -> &[Items<u8>]
+        ensures { result.now ≡ self.now }
+    {
+        self.rows.as_slice()
+    }
+
     /// Whether each symbol is one that its column may have, where so many columns are inputs and so many behind them are states. It
     /// takes time in proportion to the symbols.
     pub fn allows(&self, kind: TableType, inputs: usize, states: usize) -> bool
