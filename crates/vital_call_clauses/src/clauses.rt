@@ -12,27 +12,27 @@ use crate::wrong_call::{is_wrong_function, is_wrong_procedure};
 use std::alloc::{AllocError, Global};
 use vital_base::Place;
 use vital_calls::Call;
-use vital_names::{CellNames, ProcessNames, Site};
+use vital_names::{CellNames, Site};
 use vital_nodes::{Conc, Reference};
 use vital_statements::{call_of_conc, call_of_stmt};
-use vital_uses::{CellStatements, SitedNode, nodes_of_process, nodes_outside_processes, own_site};
+use vital_uses::{CellStatements, CellUses, ProcessUses, SitedNode, own_site};
 use vital_walk::{HasPlace, Node};
 
-/// The places where L1.14 is broken in a cell, of which these are the statements: each call whose items are for no formal, for one
+/// The places where L1.14 is broken in a cell, of which these are the names and the statements: each call whose items are for no formal, for one
 /// twice, too few, or by position where names are asked. It takes time in proportion to the nodes of the cell.
 pub fn clause_14<'a>(
     alloc: Global,
-    names: &'a CellNames<'a>,
-    statements: &'a CellStatements<'a>,
+    uses: &CellUses<'a>,
+    statements: &CellStatements<'a>,
 ) -> Result<Vec<Place>, AllocError>
-    requires { statements.now ≡ names.now.arch }
-    ensures { IfOk result (λ places. places.items ≡ spec.clause_14 names.now) }
+    requires { statements.now ≡ uses.now.arch }
+    ensures { IfOk result (λ places. places.items ≡ spec.clause_14 uses.now) }
 {
+    let names = uses.names();
     let mut places = Vec::new(alloc);
-    let nodes = nodes_outside_processes(alloc, names, statements)?;
-    put_wrong_nodes(&mut places, names, &nodes)?;
+    put_wrong_nodes(&mut places, names, uses.nodes_outside())?;
     put_wrong_concurrent(&mut places, names, statements.statements())?;
-    put_wrong_in_processes(alloc, &mut places, names, statements.processes())?;
+    put_wrong_in_processes(&mut places, uses.processes())?;
     Ok(places)
 }
 
@@ -133,29 +133,24 @@ fn put_wrong_conc(
 }
 
 /// Puts the places of calls with wrong items in processes at the end.
-fn put_wrong_in_processes<'a>(
-    alloc: Global,
+fn put_wrong_in_processes(
     places: &mut Vec<Place>,
-    names: &CellNames<'a>,
-    processes: &'a [ProcessNames<'a>],
+    processes: &[ProcessUses<'_>],
 ) -> Result<(), AllocError>
-    ensures { OnOk result (places.new.items ≡ places.old.items ++ flat_map (spec.wrong_in_process names.now) processes.now) }
+    ensures { OnOk result (places.new.items ≡ places.old.items ++ flat_map (λ u. spec.wrong_in_process u.0 u.1) processes.now) }
 {
     for process in processes {
-        put_wrong_in_process(alloc, places, names, process)?;
+        put_wrong_in_process(places, process)?;
     }
     Ok(())
 }
 
 /// Puts the places of calls with wrong items in a process at the end.
-fn put_wrong_in_process<'a>(
-    alloc: Global,
+fn put_wrong_in_process(
     places: &mut Vec<Place>,
-    names: &CellNames<'a>,
-    process: &'a ProcessNames<'a>,
+    process: &ProcessUses<'_>,
 ) -> Result<(), AllocError>
-    ensures { OnOk result (places.new.items ≡ places.old.items ++ spec.wrong_in_process names.now process.now) }
+    ensures { OnOk result (places.new.items ≡ places.old.items ++ spec.wrong_in_process process.now.0 process.now.1) }
 {
-    let nodes = nodes_of_process(alloc, process)?;
-    put_wrong_nodes(places, names, &nodes)
+    put_wrong_nodes(places, process.names(), process.nodes())
 }

@@ -1,11 +1,13 @@
 //! Calls whose items are wrong for the formals of what is called.
 
-ghost use Rattle.std.specs.Prelude.{◌≡◌};
-ghost use Rattle.std.specs.Option.{option_copied, option_map};
+ghost use Rattle.std.specs.Prelude.{◌≡◌, is_some};
+ghost use Rattle.std.specs.Option.{option_and_then, option_copied, option_map};
 ghost use Rattle.vital_call_clauses.specs.WrongCalls as spec;
 ghost use Rattle.vital_calls.specs.Calls.{lent};
 ghost use Rattle.vital_declarations.specs.Operands as operands;
+ghost use Rattle.vital_names.specs.Kinds.{as_function};
 ghost use Rattle.vital_names.specs.Sites as sites;
+ghost use Rattle.vital_names.specs.Words.{predeclared};
 
 use vital_calls::{
     Call, actual_of, call_of, formals_of_function, formals_of_procedure, has_wrong_formals,
@@ -27,11 +29,25 @@ pub fn is_wrong_for(name: &Reference, function: Function) -> bool
     }
 }
 
-/// The predeclared function that the identifier of a name means at a site.
+/// Whether a name is predeclared as a function.
+fn is_function_word(names: &CellNames<'_>, word: &[u8]) -> bool
+    ensures { result ≡ is_some (option_and_then as_function (predeclared word.now)) }
+{
+    match names.predeclared(word) {
+        Some(predeclared) => predeclared.as_function().is_some(),
+        None => false,
+    }
+}
+
+/// The predeclared function that the identifier of a name means at a site. Most names are no such word, which is asked first.
 fn function_at<'a>(names: &CellNames<'a>, site: &Site<'a>, name: &Reference) -> Option<Function>
     ensures { result ≡ spec.function_at names.now (sites.lent site.now) name.now }
 {
-    match names.meaning(name.identifier.name.as_slice(), site) {
+    let word = name.identifier.name.as_slice();
+    if !is_function_word(names, word) {
+        return None;
+    }
+    match names.meaning(word, site) {
         Some(meaning) => meaning.function(),
         None => None,
     }

@@ -156,7 +156,7 @@ pub fn first_breach<'a>(
     let mut all = Vec::new(alloc);
     let regions = regions(alloc, names)?;
     put_plain_breaches(alloc, &mut all, &*names, &regions)?;
-    let of_names = name_breaches(alloc, names, statements, uses)?;
+    let of_names = name_breaches(alloc, statements, uses)?;
     all.extend_from_slice(&of_names)?;
     let named = named_constants(alloc, uses)?;
     let constants = packages.breaches();

@@ -8,7 +8,6 @@ use crate::package_names::{NamedConstant, PackageClause, names_that_break};
 use std::alloc::{AllocError, Global};
 use vital_base::{Breach, Clause, Place};
 use vital_call_clauses::clause_14;
-use vital_names::CellNames;
 use vital_package_constants::ConstantBreaches;
 use vital_uses::{CellStatements, CellUses};
 use vital_variables::clause_13;
@@ -29,18 +28,16 @@ pub fn put_broken(all: &mut Vec<Breach>, number: u8, places: &[Place]) -> Result
 /// The breaches of the clauses that speak of names and calls.
 pub fn name_breaches<'a>(
     alloc: Global,
-    names: &'a CellNames<'a>,
-    statements: &'a CellStatements<'a>,
+    statements: &CellStatements<'a>,
     uses: &CellUses<'a>,
 ) -> Result<Vec<Breach>, AllocError>
-    requires statements { statements.now ≡ names.now.arch }
-    requires uses { uses.now ≡ names.now }
-    ensures { IfOk result (λ breaches. breaches.items ≡ spec.name_breaches names.now) }
+    requires { statements.now ≡ uses.now.arch }
+    ensures { IfOk result (λ breaches. breaches.items ≡ spec.name_breaches uses.now) }
 {
     let mut all = Vec::new(alloc);
     put_broken(&mut all, 8, &uses.clause_8(alloc)?)?;
     put_broken(&mut all, 13, &clause_13(alloc, uses)?)?;
-    put_broken(&mut all, 14, &clause_14(alloc, names, statements)?)?;
+    put_broken(&mut all, 14, &clause_14(alloc, uses, statements)?)?;
     put_broken(&mut all, 16, &uses.clause_16(alloc)?)?;
     Ok(all)
 }

@@ -150,7 +150,8 @@ fn wrong_calls_in(
     let library = LibraryNames::new(alloc, library)?;
     let names = CellNames::new(alloc, &library, entity, Some(arch))?;
     let statements = CellStatements::new(alloc, names.arch())?;
-    in_order(alloc, &clause_14(alloc, &names, &statements)?)
+    let uses = CellUses::new(alloc, &names, &statements)?;
+    in_order(alloc, &clause_14(alloc, &uses, &statements)?)
 }
 
 /// Where the good cell in which these lines are others breaks L1.14.

@@ -28,6 +28,8 @@ use vital_nodes::{Arch, Conc, Decl, Entity, Reference};
 #[derive(Drop)]
 pub struct CellUses<'a> {
     names: &'a CellNames<'a>,
+    /// The nodes that stand in no process.
+    nodes: Vec<SitedNode<'a>>,
     /// What is asked at the nodes that stand in no process.
     outside: Vec<Asked<'a>>,
     /// The names of types.
@@ -51,7 +53,7 @@ impl<'a> Model for CellUses<'a> {
 
     ghost view = { λ u. u.names.now };
 
-    ghost invariant = { λ u. HasUses u.names.now u.outside.items u.types.items u.processes.items };
+    ghost invariant = { λ u. HasUses u.names.now u.nodes.items u.outside.items u.types.items u.processes.items };
 }
 
 impl<'a> CellUses<'a> {
@@ -70,6 +72,7 @@ impl<'a> CellUses<'a> {
         let processes = processes(alloc, names, statements.processes())?;
         Ok(CellUses {
             names,
+            nodes,
             outside,
             types,
             processes,
@@ -81,6 +84,13 @@ impl<'a> CellUses<'a> {
         ensures { result.now ≡ self.now }
     {
         self.names
+    }
+
+    /// The nodes that stand in no process, in order.
+    pub fn nodes_outside(&self) -> &[SitedNode<'a>]
+        ensures { map lent_node result.now ≡ spec.nodes_outside_processes self.now }
+    {
+        self.nodes.as_slice()
     }
 
     /// What is asked at the nodes that stand in no process, in order.
@@ -173,7 +183,7 @@ pub fn declarations_of<'a>(arch: Option<&'a Arch>) -> &'a [Decl]
 }
 
 /// The nodes of a cell that stand in no process, of which these are the statements.
-pub fn nodes_outside_processes<'a>(
+fn nodes_outside_processes<'a>(
     alloc: Global,
     names: &'a CellNames<'a>,
     statements: &'a CellStatements<'a>,

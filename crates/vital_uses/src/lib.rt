@@ -18,9 +18,8 @@ mod unread;
 
 pub use apart::{asked_apart, nodes_apart};
 pub use asked::{Asked, identifier_of_node};
-pub use cell_uses::{CellUses, nodes_outside_processes};
+pub use cell_uses::CellUses;
 pub use names_at::{FirstPlaces, NameAt, first_places};
-pub use nodes::nodes_of_process;
 pub use parts::put_asked_of_subtype;
 pub use process_uses::ProcessUses;
 pub use sited::{SitedNode, own_site};

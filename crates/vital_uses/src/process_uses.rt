@@ -4,9 +4,11 @@ ghost use Rattle.std.specs.Prelude.{◌≡◌, map, IfOk};
 ghost use Rattle.vital_walk.specs.Statements.{all_sequential};
 ghost use Rattle.vital_uses.specs.Asked.{asked, lent_asked};
 ghost use Rattle.vital_uses.specs.Nodes.{nodes_of_process};
+ghost use Rattle.vital_uses.specs.Sited.{lent_node};
 
 use crate::asked::{Asked, asked_at_nodes};
 use crate::nodes::nodes_of_process;
+use crate::sited::SitedNode;
 use std::alloc::{AllocError, Global};
 use std::marker::Model;
 use vital_names::{CellNames, ProcessNames};
@@ -20,6 +22,8 @@ pub struct ProcessUses<'a> {
     process: &'a ProcessNames<'a>,
     /// All statements, those in `if`s included, in order.
     statements: Vec<&'a Stmt>,
+    /// The nodes of the process, in order.
+    nodes: Vec<SitedNode<'a>>,
     /// What is asked at the nodes of the process, in order.
     asked: Vec<Asked<'a>>,
 }
@@ -36,6 +40,7 @@ impl<'a> Model for ProcessUses<'a> {
     ghost use Rattle.vital_walk.specs.Statements.{all_sequential};
     ghost use Rattle.vital_uses.specs.Asked as spec;
     ghost use Rattle.vital_uses.specs.Nodes as nodes;
+    ghost use Rattle.vital_uses.specs.Sited.{lent_node};
 
     ghost Value = { Cell × Process };
 
@@ -43,7 +48,7 @@ impl<'a> Model for ProcessUses<'a> {
 
     ghost view = { λ u. (u.names.now, u.process.now) };
 
-    ghost invariant = { λ u. (map (λ s. s.now) u.statements.items ≡ all_sequential u.process.now.statements) × (map spec.lent_asked u.asked.items ≡ spec.asked u.names.now (nodes.nodes_of_process u.process.now)) };
+    ghost invariant = { λ u. (map (λ s. s.now) u.statements.items ≡ all_sequential u.process.now.statements) × (map lent_node u.nodes.items ≡ nodes.nodes_of_process u.process.now) × (map spec.lent_asked u.asked.items ≡ spec.asked u.names.now (nodes.nodes_of_process u.process.now)) };
 }
 
 impl<'a> ProcessUses<'a> {
@@ -62,6 +67,7 @@ impl<'a> ProcessUses<'a> {
             names,
             process,
             statements,
+            nodes,
             asked,
         })
     }
@@ -85,6 +91,13 @@ impl<'a> ProcessUses<'a> {
         ensures { map (λ s. s.now) result.now ≡ all_sequential self.now.1.statements }
     {
         self.statements.as_slice()
+    }
+
+    /// The nodes of the process, in order: those in what it declares, the names of its list, and its statements.
+    pub fn nodes(&self) -> &[SitedNode<'a>]
+        ensures { map lent_node result.now ≡ nodes_of_process self.now.1 }
+    {
+        self.nodes.as_slice()
     }
 
     /// What is asked at the nodes of the process, in order.
