@@ -152,5 +152,7 @@ fn put_wrong_in_process(
 ) -> Result<(), AllocError>
     ensures { OnOk result (places.new.items ≡ places.old.items ++ spec.wrong_in_process process.now.0 process.now.1) }
 {
-    put_wrong_nodes(places, process.names(), process.nodes())
+    let names = process.names();
+    put_wrong_nodes(places, names, process.nodes_before_statements())?;
+    put_wrong_nodes(places, names, process.nodes_of_statements())
 }

@@ -97,29 +97,33 @@ fn put_plain_breaches<'a>(
 fn put_form_breaches<'a>(
     alloc: Global,
     all: &mut Vec<Breach>,
-    names: &'a CellNames<'a>,
+    uses: &CellUses<'a>,
     statements: &'a CellStatements<'a>,
     regions: &'a [Region<'a>],
     named: &[NamedConstant],
     faults: &'a [Place],
 ) -> Result<(), AllocError>
-    requires statements { statements.now ≡ names.now.arch }
-    requires regions { regions.now ≡ regions' names.now.arch }
-    ensures { OnOk result (all.new.items ≡ all.old.items ++ spec.form_breaches_by names.now named.now faults.now) }
+    requires statements { statements.now ≡ uses.now.arch }
+    requires regions { regions.now ≡ regions' uses.now.arch }
+    ensures { OnOk result (all.new.items ≡ all.old.items ++ spec.form_breaches_by uses.now named.now faults.now) }
 {
     let faults = Faults::new(alloc, faults)?;
     let mut broken = Vec::new(alloc);
-    let mut uses = Vec::new(alloc);
+    let mut tables = Vec::new(alloc);
     put_forms(
         alloc,
-        &*names,
+        uses,
         &*statements,
         &*regions,
         &faults,
         &mut broken,
-        &mut uses,
+        &mut tables,
     )?;
-    put_broken(all, 3, &wrong_symbols(alloc, names, regions, named, &uses)?)?;
+    put_broken(
+        all,
+        3,
+        &wrong_symbols(alloc, uses.names(), regions, named, &tables)?,
+    )?;
     put_broken(all, 15, &broken)
 }
 
@@ -165,7 +169,7 @@ pub fn first_breach<'a>(
     put_form_breaches(
         alloc,
         &mut all,
-        &*names,
+        uses,
         &*statements,
         &regions,
         &named,

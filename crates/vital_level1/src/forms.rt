@@ -1,15 +1,12 @@
 //! Where statements, values and defaults are not of the form or type that is asked of them, and the tables that calls use.
 
-ghost use Rattle.std.specs.Prelude.{◌≡◌, ◌++◌, map, IfOk, OnOk};
+ghost use Rattle.std.specs.Prelude.{◌≡◌, ◌++◌, map, OnOk};
 ghost use Rattle.std.specs.List.{flat_map};
 ghost use Rattle.vital_declaration_clauses.specs.Regions.{regions as regions'};
 ghost use Rattle.vital_level1.specs.Forms as spec;
-ghost use Rattle.vital_nodes.specs.Nodes.{sequentials};
-ghost use Rattle.vital_nodes.specs.Walk.{nodes_of_all as nodes_of_all'};
 ghost use Rattle.vital_typed_statements.specs.Statements.{concurrent_call};
-ghost use Rattle.vital_walk.specs.Seen.{seen};
 
-use crate::uses::{put_of_interface, put_of_regions, put_truth_uses};
+use crate::uses::{put_of_interface, put_of_regions, put_truth_uses, put_truth_uses_at};
 use std::alloc::{AllocError, Global};
 use vital_base::Place;
 use vital_declaration_clauses::Region;
@@ -19,8 +16,8 @@ use vital_nodes::{Conc, Reference, Stmt};
 use vital_operands::{Faults, Position};
 use vital_typed_declarations::{put_broken_in_interface, put_broken_in_regions};
 use vital_typed_statements::{TableUse, read_call, read_statement};
-use vital_uses::CellStatements;
-use vital_walk::{Node, all_sequential, call, nodes_of, nodes_of_all};
+use vital_uses::{CellStatements, CellUses, ProcessUses};
+use vital_walk::{Node, call, nodes_of};
 
 /// Puts where a concurrent call is not of its form at the end, and the tables that it uses.
 fn put_of_call<'a>(
@@ -29,19 +26,19 @@ fn put_of_call<'a>(
     faults: &'a Faults<'a>,
     name: &'a Reference,
     broken: &mut Vec<Place>,
-    uses: &mut Vec<TableUse>,
+    tables: &mut Vec<TableUse>,
 ) -> Result<(), AllocError>
     ensures broken { OnOk result (broken.new.items ≡ broken.old.items ++ (concurrent_call names.now faults.now name.now).places) }
-    ensures uses { OnOk result (uses.new.items ≡ uses.old.items ++ spec.uses_of_call names.now faults.now name.now) }
+    ensures tables { OnOk result (tables.new.items ≡ tables.old.items ++ spec.uses_of_call names.now faults.now name.now) }
 {
     let reader = Reader {
         alloc,
         position: Position::Statement(names, CellUnit::Architecture, None),
         faults,
     };
-    read_call(&reader, names, None, name, broken, uses)?;
+    read_call(&reader, names, None, name, broken, tables)?;
     let nodes = nodes_of(alloc, Node::Name(name))?;
-    put_truth_uses(&reader, &nodes, uses)
+    put_truth_uses(&reader, &nodes, tables)
 }
 
 /// The same, of a concurrent statement.
@@ -51,13 +48,13 @@ fn put_of_concurrent<'a>(
     faults: &'a Faults<'a>,
     conc: &'a Conc,
     broken: &mut Vec<Place>,
-    uses: &mut Vec<TableUse>,
+    tables: &mut Vec<TableUse>,
 ) -> Result<(), AllocError>
     ensures broken { OnOk result (broken.new.items ≡ broken.old.items ++ spec.broken_concurrent names.now faults.now conc.now) }
-    ensures uses { OnOk result (uses.new.items ≡ uses.old.items ++ spec.uses_of_concurrent names.now faults.now conc.now) }
+    ensures tables { OnOk result (tables.new.items ≡ tables.old.items ++ spec.uses_of_concurrent names.now faults.now conc.now) }
 {
     match call(conc) {
-        Some(name) => put_of_call(alloc, names, faults, name, broken, uses),
+        Some(name) => put_of_call(alloc, names, faults, name, broken, tables),
         None => Ok(()),
     }
 }
@@ -69,13 +66,13 @@ fn put_of_all_concurrent<'a>(
     faults: &'a Faults<'a>,
     statements: &[&'a Conc],
     broken: &mut Vec<Place>,
-    uses: &mut Vec<TableUse>,
+    tables: &mut Vec<TableUse>,
 ) -> Result<(), AllocError>
     ensures broken { OnOk result (broken.new.items ≡ broken.old.items ++ flat_map (spec.broken_concurrent names.now faults.now) (map (λ c. c.now) statements.now)) }
-    ensures uses { OnOk result (uses.new.items ≡ uses.old.items ++ flat_map (spec.uses_of_concurrent names.now faults.now) (map (λ c. c.now) statements.now)) }
+    ensures tables { OnOk result (tables.new.items ≡ tables.old.items ++ flat_map (spec.uses_of_concurrent names.now faults.now) (map (λ c. c.now) statements.now)) }
 {
     for conc in statements {
-        put_of_concurrent(alloc, names, faults, conc, broken, uses)?;
+        put_of_concurrent(alloc, names, faults, conc, broken, tables)?;
     }
     Ok(())
 }
@@ -88,17 +85,17 @@ fn put_of_statement<'a>(
     process: &'a ProcessNames<'a>,
     stmt: &Stmt,
     broken: &mut Vec<Place>,
-    uses: &mut Vec<TableUse>,
+    tables: &mut Vec<TableUse>,
 ) -> Result<(), AllocError>
     ensures broken { OnOk result (broken.new.items ≡ broken.old.items ++ spec.broken_statement names.now faults.now process.now stmt.now) }
-    ensures uses { OnOk result (uses.new.items ≡ uses.old.items ++ spec.uses_of_statement names.now faults.now process.now stmt.now) }
+    ensures tables { OnOk result (tables.new.items ≡ tables.old.items ++ spec.uses_of_statement names.now faults.now process.now stmt.now) }
 {
     let reader = Reader {
         alloc,
         position: Position::Statement(names, CellUnit::Architecture, Some(process)),
         faults,
     };
-    read_statement(&reader, names, Some(process), stmt, broken, uses)?;
+    read_statement(&reader, names, Some(process), stmt, broken, tables)?;
     Ok(())
 }
 
@@ -110,89 +107,74 @@ fn put_of_statements<'a>(
     process: &'a ProcessNames<'a>,
     statements: &[&Stmt],
     broken: &mut Vec<Place>,
-    uses: &mut Vec<TableUse>,
+    tables: &mut Vec<TableUse>,
 ) -> Result<(), AllocError>
     ensures broken { OnOk result (broken.new.items ≡ broken.old.items ++ flat_map (spec.broken_statement names.now faults.now process.now) (map (λ s. s.now) statements.now)) }
-    ensures uses { OnOk result (uses.new.items ≡ uses.old.items ++ flat_map (spec.uses_of_statement names.now faults.now process.now) (map (λ s. s.now) statements.now)) }
+    ensures tables { OnOk result (tables.new.items ≡ tables.old.items ++ flat_map (spec.uses_of_statement names.now faults.now process.now) (map (λ s. s.now) statements.now)) }
 {
     for stmt in statements {
-        put_of_statement(alloc, names, faults, process, stmt, broken, uses)?;
+        put_of_statement(alloc, names, faults, process, stmt, broken, tables)?;
     }
     Ok(())
-}
-
-/// Puts statements at the end.
-fn put_statements<'a>(nodes: &mut Vec<Node<'a>>, statements: &'a [Stmt]) -> Result<(), AllocError>
-    ensures { OnOk result (map seen nodes.new.items ≡ map seen nodes.old.items ++ sequentials statements.now) }
-{
-    for stmt in statements {
-        nodes.push(Node::Sequential(stmt))?;
-    }
-    Ok(())
-}
-
-/// The nodes of statements, with all that they hold.
-fn nodes_of_statements<'a>(
-    alloc: Global,
-    statements: &'a [Stmt],
-) -> Result<Vec<Node<'a>>, AllocError>
-    ensures { IfOk result (λ nodes. map seen nodes.items ≡ nodes_of_all' (sequentials statements.now)) }
-{
-    let mut parts = Vec::new(alloc);
-    put_statements(&mut parts, statements)?;
-    nodes_of_all(alloc, parts)
 }
 
 /// Puts the truth tables that a process uses at the end.
 fn put_truth_uses_of_process<'a>(
     alloc: Global,
-    names: &'a CellNames<'a>,
     faults: &'a Faults<'a>,
-    process: &'a ProcessNames<'a>,
-    uses: &mut Vec<TableUse>,
+    process: &ProcessUses<'a>,
+    tables: &mut Vec<TableUse>,
 ) -> Result<(), AllocError>
-    ensures { OnOk result (uses.new.items ≡ uses.old.items ++ spec.truth_uses_of_process names.now faults.now process.now) }
+    ensures { OnOk result (tables.new.items ≡ tables.old.items ++ spec.truth_uses_of_process process.now.0 faults.now process.now.1) }
 {
     let reader = Reader {
         alloc,
-        position: Position::Statement(names, CellUnit::Architecture, Some(process)),
+        position: Position::Statement(
+            process.names(),
+            CellUnit::Architecture,
+            Some(process.process()),
+        ),
         faults,
     };
-    let nodes = nodes_of_statements(alloc, process.process().statements.as_slice())?;
-    put_truth_uses(&reader, &nodes, uses)
+    put_truth_uses_at(&reader, process.nodes_of_statements(), tables)
 }
 
 /// Puts where the statements of a process are not of their forms at the end, and the tables that they use.
 fn put_of_process<'a>(
     alloc: Global,
-    names: &'a CellNames<'a>,
     faults: &'a Faults<'a>,
-    process: &'a ProcessNames<'a>,
+    process: &ProcessUses<'a>,
     broken: &mut Vec<Place>,
-    uses: &mut Vec<TableUse>,
+    tables: &mut Vec<TableUse>,
 ) -> Result<(), AllocError>
-    ensures broken { OnOk result (broken.new.items ≡ broken.old.items ++ spec.broken_in_process names.now faults.now process.now) }
-    ensures uses { OnOk result (uses.new.items ≡ uses.old.items ++ spec.uses_of_process names.now faults.now process.now) }
+    ensures broken { OnOk result (broken.new.items ≡ broken.old.items ++ spec.broken_in_process process.now.0 faults.now process.now.1) }
+    ensures tables { OnOk result (tables.new.items ≡ tables.old.items ++ spec.uses_of_process process.now.0 faults.now process.now.1) }
 {
-    let statements = all_sequential(alloc, process.process().statements.as_slice())?;
-    put_of_statements(alloc, names, faults, process, &statements, broken, uses)?;
-    put_truth_uses_of_process(alloc, names, faults, process, uses)
+    put_of_statements(
+        alloc,
+        process.names(),
+        faults,
+        process.process(),
+        process.statements(),
+        broken,
+        tables,
+    )?;
+    put_truth_uses_of_process(alloc, faults, process, tables)
 }
 
 /// The same, of all processes.
 fn put_of_processes<'a>(
     alloc: Global,
-    names: &'a CellNames<'a>,
     faults: &'a Faults<'a>,
-    processes: &'a [ProcessNames<'a>],
+    processes: &[ProcessUses<'a>],
     broken: &mut Vec<Place>,
-    uses: &mut Vec<TableUse>,
+    tables: &mut Vec<TableUse>,
 ) -> Result<(), AllocError>
-    ensures broken { OnOk result (broken.new.items ≡ broken.old.items ++ flat_map (spec.broken_in_process names.now faults.now) processes.now) }
-    ensures uses { OnOk result (uses.new.items ≡ uses.old.items ++ flat_map (spec.uses_of_process names.now faults.now) processes.now) }
+    ensures broken { OnOk result (broken.new.items ≡ broken.old.items ++ flat_map (λ u. spec.broken_in_process u.0 faults.now u.1) processes.now) }
+    ensures tables { OnOk result (tables.new.items ≡ tables.old.items ++ flat_map (λ u. spec.uses_of_process u.0 faults.now u.1) processes.now) }
 {
     for process in processes {
-        put_of_process(alloc, names, faults, process, broken, uses)?;
+        put_of_process(alloc, faults, process, broken, tables)?;
     }
     Ok(())
 }
@@ -201,22 +183,30 @@ fn put_of_processes<'a>(
 /// time in proportion to its text, and for a call of a truth table in the inputs of another one more for each that it stands in.
 pub fn put_forms<'a>(
     alloc: Global,
-    names: &'a CellNames<'a>,
+    uses: &CellUses<'a>,
     statements: &'a CellStatements<'a>,
     regions: &'a [Region<'a>],
     faults: &'a Faults<'a>,
     broken: &mut Vec<Place>,
-    uses: &mut Vec<TableUse>,
+    tables: &mut Vec<TableUse>,
 ) -> Result<(), AllocError>
-    requires statements { statements.now ≡ names.now.arch }
-    requires regions { regions.now ≡ regions' names.now.arch }
-    ensures broken { OnOk result (broken.new.items ≡ broken.old.items ++ spec.broken_forms names.now faults.now) }
-    ensures uses { OnOk result (uses.new.items ≡ uses.old.items ++ spec.table_uses names.now faults.now) }
+    requires statements { statements.now ≡ uses.now.arch }
+    requires regions { regions.now ≡ regions' uses.now.arch }
+    ensures broken { OnOk result (broken.new.items ≡ broken.old.items ++ spec.broken_forms uses.now faults.now) }
+    ensures tables { OnOk result (tables.new.items ≡ tables.old.items ++ spec.table_uses uses.now faults.now) }
 {
+    let names = uses.names();
     put_broken_in_interface(alloc, names, faults, broken)?;
     put_broken_in_regions(alloc, names, faults, regions, broken)?;
-    put_of_interface(alloc, names, faults, uses)?;
-    put_of_regions(alloc, names, faults, regions, uses)?;
-    put_of_all_concurrent(alloc, names, faults, statements.statements(), broken, uses)?;
-    put_of_processes(alloc, names, faults, statements.processes(), broken, uses)
+    put_of_interface(alloc, names, faults, tables)?;
+    put_of_regions(alloc, names, faults, regions, tables)?;
+    put_of_all_concurrent(
+        alloc,
+        names,
+        faults,
+        statements.statements(),
+        broken,
+        tables,
+    )?;
+    put_of_processes(alloc, faults, uses.processes(), broken, tables)
 }

@@ -8,6 +8,7 @@ ghost use Rattle.vital_typed_declarations.specs.Declarations.{lent_sited};
 ghost use Rattle.vital_typed_statements.specs.Uses.{truth_use_at as truth_use_at'};
 ghost use Rattle.vital_nodes.specs.Walk.{nodes_of_all as nodes_of_all'};
 ghost use Rattle.vital_uses.specs.Parts.{value_of_decl};
+ghost use Rattle.vital_uses.specs.Sited.{lent_node};
 ghost use Rattle.vital_walk.specs.Seen.{seen};
 
 use std::alloc::{AllocError, Global};
@@ -18,6 +19,7 @@ use vital_nodes::{Decl, Iface};
 use vital_operands::{Faults, Position};
 use vital_typed_declarations::{SitedDeclaration, sited_declarations};
 use vital_typed_statements::{TableUse, truth_use_at};
+use vital_uses::SitedNode;
 use vital_walk::{Node, nodes_of_all, put_if_there};
 
 /// Puts the truth table that a node uses at the end.
@@ -44,6 +46,20 @@ pub fn put_truth_uses(
 {
     for node in nodes {
         put_truth_use(reader, *node, uses)?;
+    }
+    Ok(())
+}
+
+/// The same, of nodes at their sites.
+pub fn put_truth_uses_at(
+    reader: &Reader<'_>,
+    nodes: &[SitedNode<'_>],
+    uses: &mut Vec<TableUse>,
+) -> Result<(), AllocError>
+    ensures { OnOk result (uses.new.items ≡ uses.old.items ++ spec.truth_uses (lent reader.now) (map (λ v. v.node) (map lent_node nodes.now))) }
+{
+    for node in nodes {
+        put_truth_use(reader, node.node, uses)?;
     }
     Ok(())
 }

@@ -64,8 +64,17 @@ abbrev pub nodes_outside_processes : Cell → List SitedNode
 nodes_outside_processes cell = nodes_outside_of cell.entity cell.arch (statements cell.arch)
 
 -- ---- in a process
+
+-- Those in what it declares, and the names of its list.
+abbrev pub nodes_before_statements : Process → List SitedNode
+nodes_before_statements p = declaration_nodes (Some p) p.declarations ++ seen_from_themselves (Some p) (names p.sensitivity)
+
+-- Those of its statements.
+abbrev pub nodes_of_statements : Process → List SitedNode
+nodes_of_statements p = seen_from_themselves (Some p) (sequentials p.statements)
+
 abbrev pub nodes_of_process : Process → List SitedNode
-nodes_of_process p = declaration_nodes (Some p) p.declarations ++ seen_from_themselves (Some p) (names p.sensitivity ++ sequentials p.statements)
+nodes_of_process p = nodes_before_statements p ++ nodes_of_statements p
 
 -- ---- names of types
 

@@ -65,7 +65,21 @@ fn put_asked<'a>(all: &mut Vec<Asked<'a>>, asked: Option<Asked<'a>>) -> Result<(
     Ok(())
 }
 
-/// What is asked at nodes, in order. Each name is looked up once.
+/// Puts what is asked at nodes at the end, in order. Each name is looked up once.
+fn put_asked_at<'a>(
+    all: &mut Vec<Asked<'a>>,
+    names: &CellNames<'a>,
+    nodes: &[SitedNode<'a>],
+) -> Result<(), AllocError>
+    ensures { OnOk result (map lent_asked all.new.items ≡ map lent_asked all.old.items ++ asked names.now (map lent_node nodes.now)) }
+{
+    for node in nodes {
+        put_asked(all, asked_at(names, node))?;
+    }
+    Ok(())
+}
+
+/// What is asked at nodes, in order.
 pub fn asked_at_nodes<'a>(
     alloc: Global,
     names: &CellNames<'a>,
@@ -74,8 +88,21 @@ pub fn asked_at_nodes<'a>(
     ensures { IfOk result (λ all. map lent_asked all.items ≡ asked names.now (map lent_node nodes.now)) }
 {
     let mut all = Vec::new(alloc);
-    for node in nodes {
-        put_asked(&mut all, asked_at(names, node))?;
-    }
+    put_asked_at(&mut all, names, nodes)?;
+    Ok(all)
+}
+
+/// What is asked at nodes, and then at others, in order.
+pub fn asked_at_both<'a>(
+    alloc: Global,
+    names: &CellNames<'a>,
+    nodes: &[SitedNode<'a>],
+    others: &[SitedNode<'a>],
+) -> Result<Vec<Asked<'a>>, AllocError>
+    ensures { IfOk result (λ all. map lent_asked all.items ≡ asked names.now (map lent_node nodes.now ++ map lent_node others.now)) }
+{
+    let mut all = Vec::new(alloc);
+    put_asked_at(&mut all, names, nodes)?;
+    put_asked_at(&mut all, names, others)?;
     Ok(all)
 }

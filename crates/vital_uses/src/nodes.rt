@@ -164,12 +164,12 @@ fn put_own_nodes<'a>(
     Ok(())
 }
 
-/// The nodes of a process: those in what it declares, the names of its list, and its statements.
-pub fn nodes_of_process<'a>(
+/// The nodes in what a process declares, and of the names of its list.
+pub fn nodes_before_statements<'a>(
     alloc: Global,
     process: &'a ProcessNames<'a>,
 ) -> Result<Vec<SitedNode<'a>>, AllocError>
-    ensures { IfOk result (λ nodes. map lent_node nodes.items ≡ spec.nodes_of_process process.now) }
+    ensures { IfOk result (λ nodes. map lent_node nodes.items ≡ spec.nodes_before_statements process.now) }
 {
     let stated = process.process();
     let mut nodes = Vec::new(alloc);
@@ -181,7 +181,20 @@ pub fn nodes_of_process<'a>(
     )?;
     let mut parts = Vec::new(alloc);
     put_names(&mut parts, stated.sensitivity.as_slice())?;
-    put_statements(&mut parts, stated.statements.as_slice())?;
+    put_seen_from_themselves(alloc, &mut nodes, Some(process), parts)?;
+    Ok(nodes)
+}
+
+/// The nodes of the statements of a process.
+pub fn nodes_of_statements<'a>(
+    alloc: Global,
+    process: &'a ProcessNames<'a>,
+) -> Result<Vec<SitedNode<'a>>, AllocError>
+    ensures { IfOk result (λ nodes. map lent_node nodes.items ≡ spec.nodes_of_statements process.now) }
+{
+    let mut parts = Vec::new(alloc);
+    put_statements(&mut parts, process.process().statements.as_slice())?;
+    let mut nodes = Vec::new(alloc);
     put_seen_from_themselves(alloc, &mut nodes, Some(process), parts)?;
     Ok(nodes)
 }

@@ -3,11 +3,11 @@
 ghost use Rattle.std.specs.Prelude.{◌≡◌, map, IfOk};
 ghost use Rattle.vital_walk.specs.Statements.{all_sequential};
 ghost use Rattle.vital_uses.specs.Asked.{asked, lent_asked};
-ghost use Rattle.vital_uses.specs.Nodes.{nodes_of_process};
+ghost use Rattle.vital_uses.specs.Nodes.{nodes_before_statements, nodes_of_process, nodes_of_statements};
 ghost use Rattle.vital_uses.specs.Sited.{lent_node};
 
-use crate::asked::{Asked, asked_at_nodes};
-use crate::nodes::nodes_of_process;
+use crate::asked::{Asked, asked_at_both};
+use crate::nodes::{nodes_before_statements, nodes_of_statements};
 use crate::sited::SitedNode;
 use std::alloc::{AllocError, Global};
 use std::marker::Model;
@@ -22,9 +22,11 @@ pub struct ProcessUses<'a> {
     process: &'a ProcessNames<'a>,
     /// All statements, those in `if`s included, in order.
     statements: Vec<&'a Stmt>,
-    /// The nodes of the process, in order.
-    nodes: Vec<SitedNode<'a>>,
-    /// What is asked at the nodes of the process, in order.
+    /// The nodes in what it declares, and of the names of its list.
+    nodes_before: Vec<SitedNode<'a>>,
+    /// The nodes of its statements.
+    nodes_stated: Vec<SitedNode<'a>>,
+    /// What is asked at all of these, in order.
     asked: Vec<Asked<'a>>,
 }
 
@@ -48,7 +50,7 @@ impl<'a> Model for ProcessUses<'a> {
 
     ghost view = { λ u. (u.names.now, u.process.now) };
 
-    ghost invariant = { λ u. (map (λ s. s.now) u.statements.items ≡ all_sequential u.process.now.statements) × (map lent_node u.nodes.items ≡ nodes.nodes_of_process u.process.now) × (map spec.lent_asked u.asked.items ≡ spec.asked u.names.now (nodes.nodes_of_process u.process.now)) };
+    ghost invariant = { λ u. (map (λ s. s.now) u.statements.items ≡ all_sequential u.process.now.statements) × (map lent_node u.nodes_before.items ≡ nodes.nodes_before_statements u.process.now) × (map lent_node u.nodes_stated.items ≡ nodes.nodes_of_statements u.process.now) × (map spec.lent_asked u.asked.items ≡ spec.asked u.names.now (nodes.nodes_of_process u.process.now)) };
 }
 
 impl<'a> ProcessUses<'a> {
@@ -61,13 +63,15 @@ impl<'a> ProcessUses<'a> {
         ensures { IfOk result (λ uses. uses ≡ (names.now, process.now)) }
     {
         let statements = all_sequential(alloc, process.process().statements.as_slice())?;
-        let nodes = nodes_of_process(alloc, process)?;
-        let asked = asked_at_nodes(alloc, names, &nodes)?;
+        let nodes_before = nodes_before_statements(alloc, process)?;
+        let nodes_stated = nodes_of_statements(alloc, process)?;
+        let asked = asked_at_both(alloc, names, &nodes_before, &nodes_stated)?;
         Ok(ProcessUses {
             names,
             process,
             statements,
-            nodes,
+            nodes_before,
+            nodes_stated,
             asked,
         })
     }
@@ -93,11 +97,18 @@ impl<'a> ProcessUses<'a> {
         self.statements.as_slice()
     }
 
-    /// The nodes of the process, in order: those in what it declares, the names of its list, and its statements.
-    pub fn nodes(&self) -> &[SitedNode<'a>]
-        ensures { map lent_node result.now ≡ nodes_of_process self.now.1 }
+    /// The nodes in what it declares, and of the names of its list, in order.
+    pub fn nodes_before_statements(&self) -> &[SitedNode<'a>]
+        ensures { map lent_node result.now ≡ nodes_before_statements self.now.1 }
     {
-        self.nodes.as_slice()
+        self.nodes_before.as_slice()
+    }
+
+    /// The nodes of its statements, in order.
+    pub fn nodes_of_statements(&self) -> &[SitedNode<'a>]
+        ensures { map lent_node result.now ≡ nodes_of_statements self.now.1 }
+    {
+        self.nodes_stated.as_slice()
     }
 
     /// What is asked at the nodes of the process, in order.

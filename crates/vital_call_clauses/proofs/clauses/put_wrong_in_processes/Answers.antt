@@ -1,4 +1,6 @@
 use Rattle.std.proofs.Common.{refl, arith}
+use Rattle.vital_names.specs.Sites.{Cell}
+use Rattle.vital_nodes.specs.declared.stmt.Process.{Process}
 use Rattle.vital_call_clauses.specs.Clauses as spec
 use Rattle.vital_walk.proofs.Lists.{flat_map-one, turn-behind}
 use Rattle.vital_call_clauses.proofs.clauses.put_wrong_in_processes.Goals as goal
@@ -6,4 +8,4 @@ use Rattle.vital_call_clauses.proofs.clauses.put_wrong_in_processes.Goals as goa
 pub loop-process-preserved : goal.loop-process-preserved
 loop-process-preserved c =
     turn-behind _ _ _ _ _ _ _ c.in_ok-put_wrong_in_process.ensures c.loop-process.invariant refl
-    (flat_map-one (spec.wrong_in_process c.args.names.now) c.args.processes.now c.loop-process.process-index c.process-item.result (omega arith) c.process-item.is)
+    (flat_map-one (λ (u : Cell × Process). spec.wrong_in_process u.0 u.1) c.args.processes.now c.loop-process.process-index c.process-item.result (omega arith) c.process-item.is)

@@ -6,5 +6,5 @@ use Rattle.vital_level1.proofs.forms.put_of_all_concurrent.Given as goal
 abbrev pub invariant-loop-conc : goal.invariant-loop-conc
 invariant-loop-conc l = record {
   broken : l.broken.items ≡ l.initial.broken.items ++ flat_map (spec.broken_concurrent l.names l.faults) (map (λ s. s.now) (take l.conc-index l.statements));
-  uses : l.uses.items ≡ l.initial.uses.items ++ flat_map (spec.uses_of_concurrent l.names l.faults) (map (λ s. s.now) (take l.conc-index l.statements));
+  tables : l.tables.items ≡ l.initial.tables.items ++ flat_map (spec.uses_of_concurrent l.names l.faults) (map (λ s. s.now) (take l.conc-index l.statements));
 }

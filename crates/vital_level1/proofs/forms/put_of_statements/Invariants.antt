@@ -6,5 +6,5 @@ use Rattle.vital_level1.proofs.forms.put_of_statements.Given as goal
 abbrev pub invariant-loop-stmt : goal.invariant-loop-stmt
 invariant-loop-stmt l = record {
   broken : l.broken.items ≡ l.initial.broken.items ++ flat_map (spec.broken_statement l.names l.faults l.process) (map (λ s. s.now) (take l.stmt-index l.statements));
-  uses : l.uses.items ≡ l.initial.uses.items ++ flat_map (spec.uses_of_statement l.names l.faults l.process) (map (λ s. s.now) (take l.stmt-index l.statements));
+  tables : l.tables.items ≡ l.initial.tables.items ++ flat_map (spec.uses_of_statement l.names l.faults l.process) (map (λ s. s.now) (take l.stmt-index l.statements));
 }
