@@ -1,13 +1,12 @@
 -- What no function is.
-use Rattle.std.proofs.Common.{◌≡◌, ℕ, List, Option, Some, None, Bool, true, false, refl, ap, ◌∙◌, arith}
+use Rattle.std.proofs.Common.{◌≡◌, ℕ, List, Option, Some, None, false, refl, arith}
 use Rattle.std.specs.Prelude.{is_some}
 use Rattle.std.specs.Option.{option_and_then, option_map, option_or}
 use Rattle.vital_nodes.specs.declared.decl.Object.{Object as Object'}
-use Rattle.vital_names.specs.declared.predeclared.Function.{Function}
 use Rattle.vital_names.specs.declared.predeclared.Predeclared.{Predeclared as Predeclared'}
 use Rattle.vital_names.specs.Declarations.{Declared as Declared'}
 use Rattle.vital_names.specs.Kinds.{as_function, function_meant}
-use Rattle.vital_names.specs.Meanings.{Meaning, Declared, Constant, Predeclared, constant_named, constants, declared, meaning}
+use Rattle.vital_names.specs.Meanings.{Declared, Constant, Predeclared, constant_named, constants, declared, meaning}
 use Rattle.vital_names.specs.Sites.{Cell, Site}
 use Rattle.vital_names.specs.Words.{predeclared}
 

@@ -1,5 +1,5 @@
 -- Calls of predeclared functions and procedures whose items are wrong for their formals (IEEE 1076-1993, 4.3.2.2 and 7.3.3).
-use Rattle.std.specs.Prelude.{ℕ, Bool, true, false, List, Option, Some, None, codes}
+use Rattle.std.specs.Prelude.{Bool, true, false, List, Option, codes}
 use Rattle.std.specs.Option.{option_and_then, option_map_or}
 use Rattle.vital_calls.specs.Calls.{Call, call_of}
 use Rattle.vital_calls.specs.Formals.{formals_of_function, formals_of_procedure}
