@@ -1,3 +1,4 @@
 pub mod ConstantLemmas
 pub mod NamedLemmas
 pub mod WrongLemmas
+pub mod Stated

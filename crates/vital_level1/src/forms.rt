@@ -5,6 +5,9 @@ ghost use Rattle.std.specs.List.{flat_map};
 ghost use Rattle.vital_declaration_clauses.specs.Regions.{regions as regions'};
 ghost use Rattle.vital_level1.specs.Forms as spec;
 ghost use Rattle.vital_typed_statements.specs.Statements.{concurrent_call};
+ghost use Rattle.vital_uses.specs.Nodes.{nodes_of_statements};
+ghost use Rattle.vital_uses.specs.Sited.{lent_node};
+ghost use Rattle.vital_walk.specs.Statements.{all_sequential};
 
 use crate::uses::{put_of_interface, put_of_regions, put_truth_uses, put_truth_uses_at};
 use std::alloc::{AllocError, Global};
@@ -16,7 +19,7 @@ use vital_nodes::{Conc, Reference, Stmt};
 use vital_operands::{Faults, Position};
 use vital_typed_declarations::{put_broken_in_interface, put_broken_in_regions};
 use vital_typed_statements::{TableUse, read_call, read_statement};
-use vital_uses::{CellStatements, CellUses, ProcessUses};
+use vital_uses::{CellStatements, CellUses, ProcessUses, SitedNode};
 use vital_walk::{Node, call, nodes_of};
 
 /// Puts where a concurrent call is not of its form at the end, and the tables that it uses.
@@ -118,28 +121,48 @@ fn put_of_statements<'a>(
     Ok(())
 }
 
-/// Puts the truth tables that a process uses at the end.
+/// Puts the truth tables that a process uses at the end, of which these are the nodes of the statements.
 fn put_truth_uses_of_process<'a>(
     alloc: Global,
+    names: &'a CellNames<'a>,
     faults: &'a Faults<'a>,
-    process: &ProcessUses<'a>,
+    process: &'a ProcessNames<'a>,
+    nodes: &[SitedNode<'a>],
     tables: &mut Vec<TableUse>,
 ) -> Result<(), AllocError>
-    ensures { OnOk result (tables.new.items ≡ tables.old.items ++ spec.truth_uses_of_process process.now.0 faults.now process.now.1) }
+    requires { map lent_node nodes.now ≡ nodes_of_statements process.now }
+    ensures { OnOk result (tables.new.items ≡ tables.old.items ++ spec.truth_uses_of_process names.now faults.now process.now) }
 {
     let reader = Reader {
         alloc,
-        position: Position::Statement(
-            process.names(),
-            CellUnit::Architecture,
-            Some(process.process()),
-        ),
+        position: Position::Statement(names, CellUnit::Architecture, Some(process)),
         faults,
     };
-    put_truth_uses_at(&reader, process.nodes_of_statements(), tables)
+    put_truth_uses_at(&reader, nodes, tables)
 }
 
-/// Puts where the statements of a process are not of their forms at the end, and the tables that they use.
+/// Puts where the statements of a process are not of their forms at the end, and the tables that they use. These are all its
+/// statements and their nodes.
+fn put_of_process_with<'a>(
+    alloc: Global,
+    names: &'a CellNames<'a>,
+    faults: &'a Faults<'a>,
+    process: &'a ProcessNames<'a>,
+    statements: &[&Stmt],
+    nodes: &[SitedNode<'a>],
+    broken: &mut Vec<Place>,
+    tables: &mut Vec<TableUse>,
+) -> Result<(), AllocError>
+    requires statements { map (λ s. s.now) statements.now ≡ all_sequential process.now.statements }
+    requires nodes { map lent_node nodes.now ≡ nodes_of_statements process.now }
+    ensures broken { OnOk result (broken.new.items ≡ broken.old.items ++ spec.broken_in_process names.now faults.now process.now) }
+    ensures tables { OnOk result (tables.new.items ≡ tables.old.items ++ spec.uses_of_process names.now faults.now process.now) }
+{
+    put_of_statements(alloc, names, faults, process, statements, broken, tables)?;
+    put_truth_uses_of_process(alloc, names, faults, process, nodes, tables)
+}
+
+/// The same, of a process with what its names mean.
 fn put_of_process<'a>(
     alloc: Global,
     faults: &'a Faults<'a>,
@@ -150,16 +173,16 @@ fn put_of_process<'a>(
     ensures broken { OnOk result (broken.new.items ≡ broken.old.items ++ spec.broken_in_process process.now.0 faults.now process.now.1) }
     ensures tables { OnOk result (tables.new.items ≡ tables.old.items ++ spec.uses_of_process process.now.0 faults.now process.now.1) }
 {
-    put_of_statements(
+    put_of_process_with(
         alloc,
         process.names(),
         faults,
         process.process(),
         process.statements(),
+        process.nodes_of_statements(),
         broken,
         tables,
-    )?;
-    put_truth_uses_of_process(alloc, faults, process, tables)
+    )
 }
 
 /// The same, of all processes.

@@ -8,7 +8,6 @@ ghost use Rattle.vital_typed_declarations.specs.Declarations.{lent_sited};
 ghost use Rattle.vital_typed_statements.specs.Uses.{truth_use_at as truth_use_at'};
 ghost use Rattle.vital_nodes.specs.Walk.{nodes_of_all as nodes_of_all'};
 ghost use Rattle.vital_uses.specs.Parts.{value_of_decl};
-ghost use Rattle.vital_uses.specs.Sited.{lent_node};
 ghost use Rattle.vital_walk.specs.Seen.{seen};
 
 use std::alloc::{AllocError, Global};
@@ -56,7 +55,7 @@ pub fn put_truth_uses_at(
     nodes: &[SitedNode<'_>],
     uses: &mut Vec<TableUse>,
 ) -> Result<(), AllocError>
-    ensures { OnOk result (uses.new.items ≡ uses.old.items ++ spec.truth_uses (lent reader.now) (map (λ v. v.node) (map lent_node nodes.now))) }
+    ensures { OnOk result (uses.new.items ≡ uses.old.items ++ spec.truth_uses (lent reader.now) (map (λ v. seen v.node) nodes.now)) }
 {
     for node in nodes {
         put_truth_use(reader, node.node, uses)?;

@@ -2,11 +2,11 @@ use Rattle.std.proofs.Common.{refl, arith}
 use Rattle.vital_expr.specs.Seen.{lent}
 use Rattle.vital_typed_statements.specs.Uses.{truth_use_at}
 use Rattle.vital_uses.specs.declared.sited.SitedNode.{SitedNode}
-use Rattle.vital_uses.specs.Sited.{lent_node}
 use Rattle.vital_walk.specs.Seen.{seen}
 use Rattle.vital_walk.proofs.Lists.{filter_map-seen, turn-behind}
 use Rattle.vital_level1.proofs.uses.put_truth_uses_at.Goals as goal
 
 pub loop-node-preserved : goal.loop-node-preserved
 loop-node-preserved c =
-    turn-behind _ _ _ _ _ _ _ c.in_ok-put_truth_use.ensures c.loop-node.invariant refl ?
+    turn-behind _ _ _ _ _ _ _ c.in_ok-put_truth_use.ensures c.loop-node.invariant refl
+    (filter_map-seen (λ (v : SitedNode). seen v.node) (truth_use_at (lent c.args.reader.now)) c.args.nodes.now c.loop-node.node-index c.node-item.result (omega arith) c.node-item.is)

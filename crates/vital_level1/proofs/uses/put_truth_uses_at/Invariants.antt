@@ -2,8 +2,8 @@ use Rattle.std.proofs.Common.{◌≡◌, ◌++◌, map, take}
 use Rattle.std.specs.List.{filter_map}
 use Rattle.vital_expr.specs.Seen.{lent}
 use Rattle.vital_typed_statements.specs.Uses.{truth_use_at}
-use Rattle.vital_uses.specs.Sited.{lent_node}
+use Rattle.vital_walk.specs.Seen.{seen}
 use Rattle.vital_level1.proofs.uses.put_truth_uses_at.Given as goal
 
 abbrev pub invariant-loop-node : goal.invariant-loop-node
-invariant-loop-node l = l.uses.items ≡ l.initial.uses.items ++ filter_map (truth_use_at (lent l.reader)) (map (λ v. v.node) (map lent_node (take l.node-index l.nodes)))
+invariant-loop-node l = l.uses.items ≡ l.initial.uses.items ++ filter_map (truth_use_at (lent l.reader)) (map (λ v. seen v.node) (take l.node-index l.nodes))
