@@ -1,9 +1,10 @@
 //! All breaches of the clauses of Level 1 in a cell, and the first of them.
 
-ghost use Rattle.std.specs.Prelude.{◌≡◌, ◌++◌, IfOk, OnOk};
+ghost use Rattle.std.specs.Prelude.{◌≡◌, ◌++◌, map, IfOk, OnOk};
 ghost use Rattle.std.specs.List.{reduce};
 ghost use Rattle.vital_declaration_clauses.specs.Regions.{regions as regions'};
 ghost use Rattle.vital_level1.specs.Breaches as spec;
+ghost use Rattle.vital_uses.specs.Statements.{processes as processes'};
 
 use crate::faults::{faults, name_breaches, put_broken, put_package_breaches};
 use crate::forms::put_forms;
@@ -19,7 +20,7 @@ use vital_drivers::{clause_6, clause_12};
 use vital_names::CellNames;
 use vital_operands::Faults;
 use vital_statements::{clause_1, clause_5, clause_7, clause_10, clause_11};
-use vital_uses::{CellStatements, CellUses};
+use vital_uses::{CellStatements, CellUses, ProcessUses};
 
 /// Puts the breaches of the clauses that speak of the declarations of regions at the end.
 fn put_region_breaches<'a>(
@@ -97,23 +98,26 @@ fn put_plain_breaches<'a>(
 fn put_form_breaches<'a>(
     alloc: Global,
     all: &mut Vec<Breach>,
-    uses: &CellUses<'a>,
+    names: &'a CellNames<'a>,
     statements: &'a CellStatements<'a>,
+    processes: &[ProcessUses<'_>],
     regions: &'a [Region<'a>],
     named: &[NamedConstant],
     faults: &'a [Place],
 ) -> Result<(), AllocError>
-    requires statements { statements.now ≡ uses.now.arch }
-    requires regions { regions.now ≡ regions' uses.now.arch }
-    ensures { OnOk result (all.new.items ≡ all.old.items ++ spec.form_breaches_by uses.now named.now faults.now) }
+    requires statements { statements.now ≡ names.now.arch }
+    requires processes { processes.now ≡ map (λ p. (names.now, p)) (processes' names.now.arch) }
+    requires regions { regions.now ≡ regions' names.now.arch }
+    ensures { OnOk result (all.new.items ≡ all.old.items ++ spec.form_breaches_by names.now named.now faults.now) }
 {
     let faults = Faults::new(alloc, faults)?;
     let mut broken = Vec::new(alloc);
     let mut tables = Vec::new(alloc);
     put_forms(
         alloc,
-        uses,
+        &*names,
         &*statements,
+        processes,
         &*regions,
         &faults,
         &mut broken,
@@ -122,7 +126,7 @@ fn put_form_breaches<'a>(
     put_broken(
         all,
         3,
-        &wrong_symbols(alloc, uses.names(), regions, named, &tables)?,
+        &wrong_symbols(alloc, names, regions, named, &tables)?,
     )?;
     put_broken(all, 15, &broken)
 }
@@ -169,8 +173,9 @@ pub fn first_breach<'a>(
     put_form_breaches(
         alloc,
         &mut all,
-        uses,
+        &*names,
         &*statements,
+        uses.processes(),
         &regions,
         &named,
         &faults,

@@ -7,6 +7,7 @@ ghost use Rattle.vital_level1.specs.Forms as spec;
 ghost use Rattle.vital_typed_statements.specs.Statements.{concurrent_call};
 ghost use Rattle.vital_uses.specs.Nodes.{nodes_of_statements};
 ghost use Rattle.vital_uses.specs.Sited.{lent_node};
+ghost use Rattle.vital_uses.specs.Statements.{processes as processes'};
 ghost use Rattle.vital_walk.specs.Statements.{all_sequential};
 
 use crate::uses::{put_of_interface, put_of_regions, put_truth_uses, put_truth_uses_at};
@@ -19,7 +20,7 @@ use vital_nodes::{Conc, Reference, Stmt};
 use vital_operands::{Faults, Position};
 use vital_typed_declarations::{put_broken_in_interface, put_broken_in_regions};
 use vital_typed_statements::{TableUse, read_call, read_statement};
-use vital_uses::{CellStatements, CellUses, ProcessUses, SitedNode};
+use vital_uses::{CellStatements, ProcessUses, SitedNode};
 use vital_walk::{Node, call, nodes_of};
 
 /// Puts where a concurrent call is not of its form at the end, and the tables that it uses.
@@ -127,7 +128,7 @@ fn put_truth_uses_of_process<'a>(
     names: &'a CellNames<'a>,
     faults: &'a Faults<'a>,
     process: &'a ProcessNames<'a>,
-    nodes: &[SitedNode<'a>],
+    nodes: &[SitedNode<'_>],
     tables: &mut Vec<TableUse>,
 ) -> Result<(), AllocError>
     requires { map lent_node nodes.now ≡ nodes_of_statements process.now }
@@ -149,7 +150,7 @@ fn put_of_process_with<'a>(
     faults: &'a Faults<'a>,
     process: &'a ProcessNames<'a>,
     statements: &[&Stmt],
-    nodes: &[SitedNode<'a>],
+    nodes: &[SitedNode<'_>],
     broken: &mut Vec<Place>,
     tables: &mut Vec<TableUse>,
 ) -> Result<(), AllocError>
@@ -163,10 +164,10 @@ fn put_of_process_with<'a>(
 }
 
 /// The same, of a process with what its names mean.
-fn put_of_process<'a>(
+fn put_of_process(
     alloc: Global,
-    faults: &'a Faults<'a>,
-    process: &ProcessUses<'a>,
+    faults: &Faults<'_>,
+    process: &ProcessUses<'_>,
     broken: &mut Vec<Place>,
     tables: &mut Vec<TableUse>,
 ) -> Result<(), AllocError>
@@ -185,11 +186,11 @@ fn put_of_process<'a>(
     )
 }
 
-/// The same, of all processes.
-fn put_of_processes<'a>(
+/// The same, of processes with what their names mean.
+fn put_of_processes(
     alloc: Global,
-    faults: &'a Faults<'a>,
-    processes: &[ProcessUses<'a>],
+    faults: &Faults<'_>,
+    processes: &[ProcessUses<'_>],
     broken: &mut Vec<Place>,
     tables: &mut Vec<TableUse>,
 ) -> Result<(), AllocError>
@@ -202,23 +203,41 @@ fn put_of_processes<'a>(
     Ok(())
 }
 
-/// Puts where the statements, values and defaults of a cell are not of their forms at the end, and the tables that they use. It takes
-/// time in proportion to its text, and for a call of a truth table in the inputs of another one more for each that it stands in.
+/// The same, of all processes of a cell.
+fn put_of_all_processes(
+    alloc: Global,
+    names: &CellNames<'_>,
+    faults: &Faults<'_>,
+    processes: &[ProcessUses<'_>],
+    broken: &mut Vec<Place>,
+    tables: &mut Vec<TableUse>,
+) -> Result<(), AllocError>
+    requires { processes.now ≡ map (λ p. (names.now, p)) (processes' names.now.arch) }
+    ensures broken { OnOk result (broken.new.items ≡ broken.old.items ++ flat_map (spec.broken_in_process names.now faults.now) (processes' names.now.arch)) }
+    ensures tables { OnOk result (tables.new.items ≡ tables.old.items ++ flat_map (spec.uses_of_process names.now faults.now) (processes' names.now.arch)) }
+{
+    put_of_processes(alloc, faults, processes, broken, tables)
+}
+
+/// Puts where the statements, values and defaults of a cell are not of their forms at the end, and the tables that they use. These are
+/// its processes with what their names mean. It takes time in proportion to its text, and for a call of a truth table in the inputs of
+/// another one more for each that it stands in.
 pub fn put_forms<'a>(
     alloc: Global,
-    uses: &CellUses<'a>,
+    names: &'a CellNames<'a>,
     statements: &'a CellStatements<'a>,
+    processes: &[ProcessUses<'_>],
     regions: &'a [Region<'a>],
     faults: &'a Faults<'a>,
     broken: &mut Vec<Place>,
     tables: &mut Vec<TableUse>,
 ) -> Result<(), AllocError>
-    requires statements { statements.now ≡ uses.now.arch }
-    requires regions { regions.now ≡ regions' uses.now.arch }
-    ensures broken { OnOk result (broken.new.items ≡ broken.old.items ++ spec.broken_forms uses.now faults.now) }
-    ensures tables { OnOk result (tables.new.items ≡ tables.old.items ++ spec.table_uses uses.now faults.now) }
+    requires statements { statements.now ≡ names.now.arch }
+    requires processes { processes.now ≡ map (λ p. (names.now, p)) (processes' names.now.arch) }
+    requires regions { regions.now ≡ regions' names.now.arch }
+    ensures broken { OnOk result (broken.new.items ≡ broken.old.items ++ spec.broken_forms names.now faults.now) }
+    ensures tables { OnOk result (tables.new.items ≡ tables.old.items ++ spec.table_uses names.now faults.now) }
 {
-    let names = uses.names();
     put_broken_in_interface(alloc, names, faults, broken)?;
     put_broken_in_regions(alloc, names, faults, regions, broken)?;
     put_of_interface(alloc, names, faults, tables)?;
@@ -231,5 +250,5 @@ pub fn put_forms<'a>(
         broken,
         tables,
     )?;
-    put_of_processes(alloc, faults, uses.processes(), broken, tables)
+    put_of_all_processes(alloc, names, faults, processes, broken, tables)
 }
