@@ -2,15 +2,17 @@
 use Rattle.std.proofs.Common.{◌≡◌, ℕ, ◌<◌, true, false, List, [], ◌∷◌, length, refl, sym, ◌∙◌, ap, subst, Result, Ok, Err, arith}
 use Rattle.std.proofs.lemmas.Bool.{lt-ltb}
 use Rattle.std.proofs.lemmas.Bool.Decides.{nat_tests}
-use Rattle.std.specs.Prelude.{Bool, ◌==◌, cond, nat_lt, Some, None, if◌then◌else◌}
+use Rattle.std.specs.Prelude.{Bool, ◌==◌, cond, nat_lt, Option, Some, None, if◌then◌else◌}
 use Rattle.std.specs.Option.{ok_or}
 use Rattle.vital_base.specs.Times.{number_of, unit_named, time_of}
+use Rattle.vital_base.specs.declared.ports.PortBit.{PortBit}
 use Rattle.vital_base.specs.declared.time.TimeUnit.{TimeUnit}
-use Rattle.vital_stim.specs.Entry.{stimulus, stimulus_result}
+use Rattle.vital_stim.specs.Entry.{stimulus, stimulus_result, stimulus_told}
+use Rattle.vital_stim.specs.KnownPorts.{as_told}
 use Rattle.vital_stim.specs.PortForm.{is_port, folded}
 use Rattle.vital_stim.specs.declared.entry.Entry.{Entry}
 use Rattle.vital_stim.specs.Parts.{fields_of, after_blanks, field_of, after_field}
-use Rattle.vital_stim.specs.Stimuli.{◌>>=◌, Stimulus, value_named, stimulus_of, stimulus_after}
+use Rattle.vital_stim.specs.Stimuli.{◌>>=◌, Stimulus, value_named, stimulus_of, stimulus_after, among_given, stimulus_for}
 use Rattle.vital_stim.specs.declared.fault.StimWhy.{StimWhy}
 use Rattle.vital_stim.specs.declared.fault.StimWhy.TheVariants.{Line, Unit as UnknownUnit, Large, Value, Falls}
 use Rattle.vital_stim.proofs.FieldLemmas.{BeginsField, begins_field, takes_at, fields_of-after_blanks, Takes}
@@ -69,8 +71,9 @@ falls latest fields entry why says early is =
     ∙ falls-form (is_port entry.port.now) latest (stimulus entry) (lt-ltb entry.time latest early)
     ∙ ap (λ r. r >>= λ first. if nat_lt first.time latest then Err Falls else Ok first) says
 
-pub formed : (entry : Entry) (r : Result Stimulus StimWhy) → stimulus_result (Ok entry) ≡ r → is_port entry.port.now ≡ true → r ≡ Ok (stimulus entry)
-formed entry r says form = sym says ∙ ap (λ b. cond b (Ok (stimulus entry)) (Err Line)) form
+-- ---- what a line says where ports are given, or none
+pub told_of : {A : Type 0} (given : Option (List PortBit)) (entry : Entry) (latest : ℕ) (fields : List (List ℕ)) (put told : Result A StimWhy) → stimulus_result (Ok entry) ≡ stimulus_after latest fields → as_told (stimulus entry) put ≡ stimulus_told given entry → put ≡ told → stimulus_for given latest fields ≡ as_told (stimulus entry) told
+told_of given entry latest fields put told says tests is = ap (λ r. r >>= among_given given) (sym says) ∙ sym tests ∙ ap (as_told (stimulus entry)) is
 
-pub formless : (entry : Entry) (r : Result Stimulus StimWhy) → stimulus_result (Ok entry) ≡ r → is_port entry.port.now ≡ false → r ≡ Err Line
-formless entry r says form = sym says ∙ ap (λ b. cond b (Ok (stimulus entry)) (Err Line)) form
+pub fails_before : (given : Option (List PortBit)) (latest : ℕ) (fields : List (List ℕ)) (why : StimWhy) → Err why ≡ stimulus_after latest fields → stimulus_for given latest fields ≡ Err why
+fails_before given latest fields why says = ap (λ r. r >>= among_given given) (sym says)

@@ -7,6 +7,8 @@ pub mod RunLemmas
 pub mod Positions
 pub mod PortLemmas
 pub mod NameLemmas
+pub mod GivenLemmas
+pub mod KnownLemmas
 pub mod SpellingLemmas
 pub mod BuilderLemmas
 pub mod Progress

@@ -3,5 +3,7 @@ pub mod PortForm
 pub mod Stimuli
 pub mod Entry
 pub mod Names
+pub mod GivenPorts
+pub mod KnownPorts
 pub mod Spellings
 pub mod Builder

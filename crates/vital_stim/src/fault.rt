@@ -18,6 +18,10 @@ pub enum StimWhy {
     Value,
     /// The time is below that of an earlier line.
     Falls,
+    /// Ports are given, and none of them has the name of the third field.
+    UnknownPort,
+    /// Ports are given, and the first with the name of the third field is no input.
+    NotInput,
 }
 
 /// The first line with a fault.

@@ -6,6 +6,8 @@ mod digits;
 mod entry;
 mod fault;
 mod fields;
+mod given_ports;
+mod known_ports;
 mod lines;
 mod port_form;
 mod reading;

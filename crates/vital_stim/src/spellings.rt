@@ -1,6 +1,7 @@
 //! Spellings of ports that were read before.
 
-ghost use Rattle.std.specs.Prelude.{ℕ, List, IfSome};
+ghost use Rattle.std.specs.Prelude.{List, Option, IfSome};
+ghost use Rattle.vital_base.specs.declared.ports.PortBit.{PortBit};
 ghost use Rattle.vital_stim.specs.Spellings.{Spells, Remembers};
 
 /// A spelling of a port.
@@ -21,14 +22,14 @@ pub struct Spellings<'a> {
 impl<'a> Spellings<'a> {
     /// No spelling yet.
     pub fn new() -> Self
-        ensures { (names : List (List ℕ)) → Remembers names result }
+        ensures { (given : Option (List PortBit)) (ports : List PortBit) → Remembers given ports result }
     {
         Spellings { slots: [None; 256] }
     }
 
     /// The number of the port that is spelled so, if this spelling is remembered.
     pub fn port(&self, bytes: &[u8]) -> Option<u32>
-        ensures { (names : List (List ℕ)) → Remembers names self.now → IfSome result (Spells names bytes.now) }
+        ensures { (given : Option (List PortBit)) (ports : List PortBit) → Remembers given ports self.now → IfSome result (Spells given ports bytes.now) }
     {
         let spelling = self.slots[usize::from(slot_of(bytes))]?;
         if spelling.bytes == bytes {
@@ -40,7 +41,7 @@ impl<'a> Spellings<'a> {
 
     /// Remembers how this port is spelled.
     pub fn put(&mut self, bytes: &'a [u8], port: u32)
-        ensures { (names : List (List ℕ)) → Remembers names self.old → Spells names bytes.now port → Remembers names self.new }
+        ensures { (given : Option (List PortBit)) (ports : List PortBit) → Remembers given ports self.old → Spells given ports bytes.now port → Remembers given ports self.new }
     {
         self.slots[usize::from(slot_of(bytes))] = Some(Spelling { bytes, port });
     }

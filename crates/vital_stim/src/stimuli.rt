@@ -1,4 +1,4 @@
-//! Stimuli: the ports that are driven, and the values that they take.
+//! Stimuli: ports, and the values that they take.
 
 use vital_base::{List, Ports, Time};
 use vital_logic::Level;
@@ -14,7 +14,7 @@ pub struct StimLine {
     pub value: Level,
 }
 
-/// The ports that are driven, and the lines in order. No line's time is below that of a line before it.
+/// The ports that lines may name, and the lines in order. No line's time is below that of a line before it.
 #[derive(Debug, Drop)]
 pub struct Stimuli {
     pub ports: Ports,

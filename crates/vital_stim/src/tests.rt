@@ -1,8 +1,9 @@
-ghost use Rattle.std.specs.Prelude.{◌≤◌, length};
+ghost use Rattle.std.specs.Prelude.{◌≤◌, ◌<◌, ◌^◌, length, IfSome};
 
 use crate::{StimError, Stimuli, read_stim};
 use std::alloc::{AllocError, Global};
 use std::test::Fail;
+use vital_base::{List, Name, PortBit, Ports};
 use vital_logic::to_byte;
 
 /// Texts, and what they say: the ports with their first levels, and `time port level` for each line; or the line and
@@ -89,6 +90,52 @@ const ROWS: [(&[u8], &str); 48] = [
     (b"1 ns a 1\n9999999999999999999 ms a 2\n0 ns a 2", "2 Large"),
 ];
 
+/// Ports that are given, two of which have one name: each with whether it is an input and with its first level.
+const PORTS: [(&[u8], bool, u8); 5] = [
+    (b"a", true, b'U'),
+    (b"y", false, b'U'),
+    (b"d(1)", true, b'1'),
+    (b"d(0)", true, b'Z'),
+    (b"a", false, b'0'),
+];
+
+/// Texts, and what they say of these ports; a port that is no input has `?` for `:`.
+const GIVEN_ROWS: [(&[u8], &str); 17] = [
+    (b"", "a:U y?U d(1):1 d(0):Z a?0 "),
+    (
+        b"5 fs d(0) 1\n5 fs A 0\n6 fs D(1) z\n6 fs a 1\n7 fs d(0) 0",
+        "a:U y?U d(1):1 d(0):Z a?0 5 3 1;5 0 0;6 2 Z;6 0 1;7 3 0;",
+    ),
+    (b"1 fs b 1", "1 UnknownPort"),
+    (b"1 fs d 1", "1 UnknownPort"),
+    (b"1 fs d(2) 1", "1 UnknownPort"),
+    (b"1 fs a(0) 1", "1 UnknownPort"),
+    (b"1 fs d(01) 1", "1 Line"),
+    (b"1 fs y 1", "1 NotInput"),
+    (b"0 fs a 1\n# y\n0 fs Y 1", "3 NotInput"),
+    (b"1 fs y 1\n1 fs b 1", "1 NotInput"),
+    (b"1 fs b 1\n1 fs y 1", "1 UnknownPort"),
+    // Two tests fail: the earlier one counts.
+    (b"1 fs y_ 1", "1 Line"),
+    (b"1 min y 1", "1 Unit"),
+    (b"1152921504606846977 fs b 1", "1 Large"),
+    (b"1 fs y 2", "1 Value"),
+    (b"2 fs a 1\n1 fs b 1", "2 Falls"),
+    (b"2 fs a 1\n1 fs y 1", "2 Falls"),
+];
+
+fn ports(alloc: Global) -> Result<Ports, AllocError> {
+    let mut ports = Vec::new(alloc);
+    for (name, input, initial) in PORTS {
+        ports.push(PortBit {
+            name: Name::new(Vec::from_slice(alloc, name)?),
+            input,
+            initial,
+        })?;
+    }
+    Ok(List::new(ports))
+}
+
 fn written(alloc: Global, stimuli: &Stimuli) -> Result<String, AllocError> {
     let mut text = String::new(alloc);
     for port in stimuli.ports.as_slice() {
@@ -107,10 +154,11 @@ fn written(alloc: Global, stimuli: &Stimuli) -> Result<String, AllocError> {
     Ok(text)
 }
 
-fn answer(alloc: Global, text: &[u8]) -> Result<String, AllocError>
-    requires { length text.now ≤ 16_777_216 }
+fn answer(alloc: Global, text: &[u8], ports: Option<&Ports>) -> Result<String, AllocError>
+    requires short { length text.now ≤ 16_777_216 }
+    requires few { IfSome ports (λ given. length given.now < 2 ^ 32) }
 {
-    match read_stim(alloc, text, None) {
+    match read_stim(alloc, text, ports) {
         Ok(stimuli) => written(alloc, &stimuli),
         Err(StimError::Fault(fault)) => {
             let (line, why) = (fault.line, fault.why);
@@ -124,8 +172,23 @@ fn answer(alloc: Global, text: &[u8]) -> Result<String, AllocError>
 fn texts_say_what_they_should(rt: HostRuntime) -> Result<(), Fail> {
     for (text, wanted) in ROWS {
         assert!(rt; text.len() <= 16_777_216);
-        let found = answer(rt.alloc(), text)?;
+        let found = answer(rt.alloc(), text, None)?;
         assert_eq!(rt; found.as_str(), wanted);
     }
+    Ok(())
+}
+
+#[test]
+fn given_ports_are_named(rt: HostRuntime) -> Result<(), Fail> {
+    let ports = ports(rt.alloc())?;
+    assert!(rt; ports.as_slice().len() < 4_294_967_296);
+    for (text, wanted) in GIVEN_ROWS {
+        assert!(rt; text.len() <= 16_777_216);
+        let found = answer(rt.alloc(), text, Some(&ports))?;
+        assert_eq!(rt; found.as_str(), wanted);
+    }
+    let none = List::new(Vec::new(rt.alloc()));
+    let found = answer(rt.alloc(), b"1 fs a 1", Some(&none))?;
+    assert_eq!(rt; found.as_str(), "1 UnknownPort");
     Ok(())
 }

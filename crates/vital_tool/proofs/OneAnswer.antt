@@ -133,7 +133,7 @@ one_read_stimuli name until (Ok stimuli) = one_stimuli_answer until stimuli
 one_read_stimuli name until (Err fault) = one_is (refused (refused_stimulus (printed_why fault.why) name fault.line) Stimulus)
 
 one_play_answer : (until : ℕ) (file : Option NamedFile) (source : Option Source) → IsOne (IsPlayAnswer until file source)
-one_play_answer until (Some file) (Some source) = one_read_stimuli file.name until (stim source.text)
+one_play_answer until (Some file) (Some source) = one_read_stimuli file.name until (stim source.text None)
 one_play_answer until (Some file) None = one_is not_there
 one_play_answer until None source = one_is not_there
 

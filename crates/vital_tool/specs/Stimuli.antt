@@ -1,5 +1,5 @@
 -- What `play` answers to the text of its stimulus file: it is read, and then its stimuli run.
-use Rattle.std.specs.Prelude.{ℕ, ◌≡◌, List, [], ◌∷◌, ◌++◌, map, Result, Ok, Err}
+use Rattle.std.specs.Prelude.{ℕ, ◌≡◌, List, [], ◌∷◌, ◌++◌, map, None, Result, Ok, Err}
 use Rattle.vital_logic.specs.declared.level.Level.{Level}
 use Rattle.vital_logic.specs.declared.level.Level.TheVariants.{X}
 use Rattle.vital_report.specs.Lines.{Said, version, init, event, end, refused_stimulus, bytes_of}
@@ -15,13 +15,15 @@ use Rattle.vital_tool.specs.Answer.{Answer, text_of, refused}
 use Rattle.vital_tool.specs.Run.{Signal, Event, IsRun, Ended}
 use Rattle.vital_tool.specs.Play.{port_signal, after_initial_run}
 
--- Why a stimulus file is refused, as it is printed.
+-- Why a stimulus file is refused, as it is printed. `play` gives no ports, so that no line fails the last two tests.
 abbrev pub printed_why : StimWhy → StimulusWhy
 printed_why why.Line = printed.Line
 printed_why why.Unit = printed.Unit
 printed_why why.Large = printed.Large
 printed_why why.Value = printed.Value
 printed_why why.Falls = printed.Falls
+printed_why why.UnknownPort = printed.Line
+printed_why why.NotInput = printed.Line
 
 abbrev pub init_line : Signal → Said
 init_line signal = init signal.name signal.value
@@ -54,6 +56,6 @@ IsReadStimuliAnswer name until (Ok stimuli) answer = IsStimuliAnswer until stimu
 IsReadStimuliAnswer name until (Err fault) answer =
     answer ≡ refused (refused_stimulus (printed_why fault.why) name fault.line) Stimulus
 
--- What `play` answers to the text of a file of this name.
+-- What `play` answers to the text of a file of this name: no ports are given.
 abbrev pub IsTextAnswer : List ℕ → ℕ → List ℕ → Answer → Type 0
-IsTextAnswer name until text answer = IsReadStimuliAnswer name until (stim text) answer
+IsTextAnswer name until text answer = IsReadStimuliAnswer name until (stim text None) answer

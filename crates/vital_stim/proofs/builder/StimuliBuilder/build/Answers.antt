@@ -1,9 +1,8 @@
-use Rattle.std.proofs.Common.{map, ◌∙◌, ap}
-use Rattle.vital_stim.specs.Stimuli.{input_port}
+use Rattle.std.proofs.Common.{◌∙◌}
 use Rattle.vital_stim.proofs.builder.StimuliBuilder.build.Goals as goal
 
 pub returns : goal.returns
-returns c = λ stimuli held.
-    let ports = c.in_ok-ports_of.ensures ∙ ap (map input_port) held.names in
+returns c = λ given stimuli held.
+    let ports = c.in_ok-into_ports.ensures ∙ held.ports in
     let lines = c.new.ensures ∙ held.lines in
     rw (ports, lines)

@@ -2,7 +2,7 @@ use Rattle.std.proofs.Common.{◌++◌, map, ◌∙◌, sym, ap, append-nil}
 use Rattle.std.proofs.lemmas.Map.Iter.{rest_all}
 use Rattle.std.proofs.lemmas.Simd.{map-map}
 use Rattle.vital_stim.specs.Stimuli.{input_port}
-use Rattle.vital_stim.proofs.builder.ports_of.Goals as goal
+use Rattle.vital_stim.proofs.known_ports.ports_of.Goals as goal
 
 pub returns : goal.returns
 returns c =

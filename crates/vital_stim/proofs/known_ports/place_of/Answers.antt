@@ -3,7 +3,7 @@ use Rattle.std.specs.Str.{bytes_eq}
 use Rattle.vital_stim.specs.Names.{texts, with_name}
 use Rattle.vital_stim.proofs.Positions.{found, missing, position_or_len-map, list_any-map}
 use Rattle.vital_stim.proofs.NameLemmas.{texts-insert}
-use Rattle.vital_stim.proofs.builder.place_of.Goals as goal
+use Rattle.vital_stim.proofs.known_ports.place_of.Goals as goal
 
 pub returns-in-Some-clause-names : goal.returns-in-Some-clause-names
 returns-in-Some-clause-names c =
