@@ -90,6 +90,8 @@ stimulus_word stimulus.Unit = codes "unit"
 stimulus_word stimulus.Large = codes "large"
 stimulus_word stimulus.Value = codes "value"
 stimulus_word stimulus.Falls = codes "falls"
+stimulus_word stimulus.UnknownPort = codes "unknown-port"
+stimulus_word stimulus.NotInput = codes "not-input"
 
 -- Why a VHDL text is no row of lexemes, in a word.
 abbrev pub lexical_word : LexicalWhy → List ℕ

@@ -123,6 +123,10 @@ pub enum StimulusWhy {
     Value,
     /// A time is below that of the line before.
     Falls,
+    /// No given port has a name.
+    UnknownPort,
+    /// A given port is no input.
+    NotInput,
 }
 
 impl StimulusWhy {
@@ -136,6 +140,8 @@ impl StimulusWhy {
             StimulusWhy::Large => b"large",
             StimulusWhy::Value => b"value",
             StimulusWhy::Falls => b"falls",
+            StimulusWhy::UnknownPort => b"unknown-port",
+            StimulusWhy::NotInput => b"not-input",
         }
     }
 }

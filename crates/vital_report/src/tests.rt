@@ -14,12 +14,22 @@ const USAGE: [(u64, UsageWhy, &str); 5] = [
     (4, UsageWhy::Missing, "refused usage 4 missing\n"),
 ];
 
-const STIMULUS: [(u32, StimulusWhy, &str); 5] = [
+const STIMULUS: [(u32, StimulusWhy, &str); 7] = [
     (1, StimulusWhy::Line, "refused stimulus line f.x 1\n"),
     (2, StimulusWhy::Unit, "refused stimulus unit f.x 2\n"),
     (3, StimulusWhy::Large, "refused stimulus large f.x 3\n"),
     (4, StimulusWhy::Value, "refused stimulus value f.x 4\n"),
     (5, StimulusWhy::Falls, "refused stimulus falls f.x 5\n"),
+    (
+        6,
+        StimulusWhy::UnknownPort,
+        "refused stimulus unknown-port f.x 6\n",
+    ),
+    (
+        7,
+        StimulusWhy::NotInput,
+        "refused stimulus not-input f.x 7\n",
+    ),
 ];
 
 const LEXICAL: [(LexicalWhy, &str); 2] = [

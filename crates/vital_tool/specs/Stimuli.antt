@@ -15,15 +15,15 @@ use Rattle.vital_tool.specs.Answer.{Answer, text_of, refused}
 use Rattle.vital_tool.specs.Run.{Signal, Event, IsRun, Ended}
 use Rattle.vital_tool.specs.Play.{port_signal, after_initial_run}
 
--- Why a stimulus file is refused, as it is printed. `play` gives no ports, so that no line fails the last two tests.
+-- Why a stimulus file is refused, as it is printed.
 abbrev pub printed_why : StimWhy → StimulusWhy
 printed_why why.Line = printed.Line
 printed_why why.Unit = printed.Unit
 printed_why why.Large = printed.Large
 printed_why why.Value = printed.Value
 printed_why why.Falls = printed.Falls
-printed_why why.UnknownPort = printed.Line
-printed_why why.NotInput = printed.Line
+printed_why why.UnknownPort = printed.UnknownPort
+printed_why why.NotInput = printed.NotInput
 
 abbrev pub init_line : Signal → Said
 init_line signal = init signal.name signal.value

@@ -58,7 +58,7 @@ fn play_stimuli<K: Sink>(
     }
 }
 
-/// Why a stimulus file is refused, as it is printed. No ports are given, so that no line fails the last two tests.
+/// Why a stimulus file is refused, as it is printed.
 fn printed_why(why: StimWhy) -> StimulusWhy
     ensures { result ≡ printed_why why }
 {
@@ -68,7 +68,7 @@ fn printed_why(why: StimWhy) -> StimulusWhy
         StimWhy::Large => StimulusWhy::Large,
         StimWhy::Value => StimulusWhy::Value,
         StimWhy::Falls => StimulusWhy::Falls,
-        StimWhy::UnknownPort => StimulusWhy::Line,
-        StimWhy::NotInput => StimulusWhy::Line,
+        StimWhy::UnknownPort => StimulusWhy::UnknownPort,
+        StimWhy::NotInput => StimulusWhy::NotInput,
     }
 }
