@@ -18,8 +18,8 @@ use vital_statements::{call_of_conc, call_of_stmt};
 use vital_uses::{CellStatements, CellUses, ProcessUses, SitedNode, own_site};
 use vital_walk::{HasPlace, Node};
 
-/// The places where L1.14 is broken in a cell, of which these are the names and the statements: each call whose items are for no formal, for one
-/// twice, too few, or by position where names are asked. It takes time in proportion to the nodes of the cell.
+/// The places where L1.14 is broken in a cell, of which these are the uses and the statements: each call whose items are for no
+/// formal, for one twice, too few, or by position where names are asked. It takes time in proportion to the nodes of the cell.
 pub fn clause_14<'a>(
     alloc: Global,
     uses: &CellUses<'a>,
