@@ -6,6 +6,7 @@ pub mod Steps
 pub mod PortIndexes
 pub mod TypeNames
 pub mod Defaults
+pub mod DefaultWords
 pub mod Clauses
 pub mod Breaches
 pub mod Found

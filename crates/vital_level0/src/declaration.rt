@@ -37,7 +37,7 @@ fn is_named(name: &[u8], designator: &Designator) -> bool
 }
 
 /// Whether an expression is the identifier TRUE.
-fn is_true(value: &Expr) -> bool
+pub fn is_true(value: &Expr) -> bool
     ensures { result ≡ is_true value.now }
 {
     match identifier_of(value) {

@@ -1,13 +1,12 @@
 //! The clauses of generics: L0.7 to L0.10, apart from how names split.
 
-ghost use Rattle.std.specs.Prelude.{◌≡◌, [], ◌∷◌, false, codes};
+ghost use Rattle.std.specs.Prelude.{◌≡◌};
 ghost use Rattle.vital_level0.specs.Clauses.{begins_as_timing, breaks_8, breaks_9, breaks_10_control, breaks_10_instance_path, breaks_10_split, is_control, is_delay_type_of, is_instance_path};
-ghost use Rattle.vital_level0.specs.TypeNames.{is_plain};
 
 use crate::default_value::{is_delay, is_string};
 use crate::parts::Prefix;
-use crate::type_name::{delay_type, plain_type};
-use vital_nodes::{Iface, Subtype};
+use crate::type_name::{delay_type, is_boolean, is_text};
+use vital_nodes::Iface;
 use vital_timing::DelayType;
 use vital_walk::identifier_of;
 
@@ -69,26 +68,6 @@ fn is_instance_path(generic: &Iface) -> bool
     ensures { result ≡ is_instance_path generic.now }
 {
     generic.identifier.name.as_slice() == b"instancepath".as_slice()
-}
-
-/// Whether a subtype is Boolean.
-fn is_boolean(subtype: &Subtype) -> bool
-    ensures { result ≡ is_plain (codes "boolean" ∷ []) subtype.now }
-{
-    match plain_type(subtype) {
-        Some(name) => name == b"boolean".as_slice(),
-        None => false,
-    }
-}
-
-/// Whether a subtype is String.
-fn is_text(subtype: &Subtype) -> bool
-    ensures { result ≡ is_plain (codes "string" ∷ []) subtype.now }
-{
-    match plain_type(subtype) {
-        Some(name) => name == b"string".as_slice(),
-        None => false,
-    }
 }
 
 /// Whether the default of a generic that splits with this prefix is none of the good ones.

@@ -4,6 +4,7 @@
 mod breaches;
 mod declaration;
 mod default_value;
+mod default_words;
 mod direction;
 mod found;
 mod generic_clauses;
@@ -14,6 +15,8 @@ mod split;
 mod type_name;
 
 pub use breaches::{breaches0, one_first_breach};
+pub use declaration::is_true;
+pub use default_words::{DefaultWord, default_word};
 pub use parts::{Edge, Parts, Prefix};
 pub use port_index::PortIndex;
 pub use split::{one_splitting, split_generic};

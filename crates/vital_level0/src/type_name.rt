@@ -1,6 +1,6 @@
 //! The types that names name.
 
-ghost use Rattle.std.specs.Prelude.{◌≡◌, is_some};
+ghost use Rattle.std.specs.Prelude.{◌≡◌, [], ◌∷◌, codes, is_some};
 ghost use Rattle.std.specs.Option.{option_map};
 ghost use Rattle.vital_level0.specs.TypeNames as spec;
 ghost use Rattle.vital_walk.specs.Bounds.{items_at_end};
@@ -34,6 +34,26 @@ pub fn plain_type(subtype: &Subtype) -> Option<&[u8]>
         return None;
     }
     type_name(subtype)
+}
+
+/// Whether a subtype is Boolean.
+pub fn is_boolean(subtype: &Subtype) -> bool
+    ensures { result ≡ spec.is_plain (codes "boolean" ∷ []) subtype.now }
+{
+    match plain_type(subtype) {
+        Some(name) => name == b"boolean".as_slice(),
+        None => false,
+    }
+}
+
+/// Whether a subtype is String.
+pub fn is_text(subtype: &Subtype) -> bool
+    ensures { result ≡ spec.is_plain (codes "string" ∷ []) subtype.now }
+{
+    match plain_type(subtype) {
+        Some(name) => name == b"string".as_slice(),
+        None => false,
+    }
 }
 
 /// Whether a subtype is a vector of std_logic with one pair of literal bounds.
