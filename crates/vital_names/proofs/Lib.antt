@@ -1,3 +1,4 @@
-pub mod FirstLemmas
+mod SeenLemmas
 pub mod ConstantLemmas
+pub mod FirstLemmas
 pub mod ViewpointLemmas

@@ -1,14 +1,16 @@
 //! The names of a cell.
 
-ghost use Rattle.std.specs.Prelude.{◌≡◌, map, IfOk};
-ghost use Rattle.std.specs.Option.{option_and_then, option_copied, option_map};
+ghost use Rattle.std.specs.Prelude.{◌≡◌, ◌++◌, map, IfOk};
+ghost use Rattle.std.specs.Option.{option_and_then, option_copied, option_map, option_or};
+ghost use Rattle.vital_base.specs.Places.{is_before};
+ghost use Rattle.vital_names.specs.Declarations.{body_of, first_named, identifier_of};
 ghost use Rattle.vital_names.specs.Declarations as declarations;
 ghost use Rattle.vital_names.specs.Meanings.{declared, declared_in_arch, declared_in_entity, declared_in_process, if_before, lent, meaning};
 ghost use Rattle.vital_names.specs.Sites as sites;
 ghost use Rattle.vital_names.specs.Words.{predeclared};
 
 use crate::declared::Declared;
-use crate::declared_lists::{body_of, interface_of};
+use crate::declared_lists::{all_declared, body_of, interface_of};
 use crate::first_names::{FirstNames, first_names};
 use crate::library_names::LibraryNames;
 use crate::meaning::Meaning;
@@ -28,11 +30,12 @@ pub struct CellNames<'a> {
     arch: Option<&'a Arch>,
     /// The first generic or port of each name.
     interface: FirstNames<'a>,
-    /// The first declaration of each name in the architecture.
-    body: FirstNames<'a>,
+    /// The first of each name among what the architecture declares, and then the generics and ports.
+    first: FirstNames<'a>,
 }
 
 impl<'a> Model for CellNames<'a> {
+    ghost use Rattle.std.specs.Prelude.{◌++◌};
     ghost use Rattle.std.specs.Option.{option_copied};
     ghost use Rattle.vital_names.specs.Declarations.{body_of, interface_of};
     ghost use Rattle.vital_names.specs.Kept.{HasFirst};
@@ -48,7 +51,14 @@ impl<'a> Model for CellNames<'a> {
 
     ghost view = { λ names. record { files = names.library.now; entity = names.entity.now; arch = option_copied names.arch } };
 
-    ghost invariant = { λ names. HasFirst names.interface (interface_of names.entity.now) × HasFirst names.body (body_of (option_copied names.arch)) };
+    ghost invariant = { λ names. HasFirst names.interface (interface_of names.entity.now) × HasFirst names.first (body_of (option_copied names.arch) ++ interface_of names.entity.now) };
+}
+
+/// Whether a declaration stands before a viewpoint.
+fn stands_before(declared: Declared<'_>, viewpoint: Place) -> bool
+    ensures { result ≡ is_before (identifier_of (declarations.lent declared.entry)).place viewpoint }
+{
+    declared.identifier().place < viewpoint
 }
 
 /// A declaration, if it stands before a viewpoint.
@@ -56,7 +66,7 @@ fn if_before<'a>(viewpoint: Place, declared: Option<Declared<'a>>) -> Option<Dec
     ensures { option_map declarations.lent result ≡ option_and_then (if_before viewpoint) (option_map declarations.lent declared.entry) }
 {
     match declared {
-        Some(declared) if declared.identifier().place < viewpoint => Some(declared),
+        Some(declared) if stands_before(declared, viewpoint) => Some(declared),
         _ => None,
     }
 }
@@ -74,14 +84,14 @@ impl<'a> CellNames<'a> {
     {
         let declared = interface_of(alloc, entity)?;
         let interface = first_names(alloc, &declared)?;
-        let declared = body_of(alloc, arch)?;
-        let body = first_names(alloc, &declared)?;
+        let declared = all_declared(alloc, entity, arch)?;
+        let first = first_names(alloc, &declared)?;
         Ok(CellNames {
             library,
             entity,
             arch,
             interface,
-            body,
+            first,
         })
     }
 
@@ -120,12 +130,9 @@ impl<'a> CellNames<'a> {
     pub fn declared(&self, name: &[u8], site: &Site<'a>) -> Option<Declared<'a>>
         ensures { option_map declarations.lent result ≡ declared name.now self.now (sites.lent site.now) }
     {
-        if let Some(declared) = in_process(name, site) {
-            return Some(declared);
-        }
-        match self.in_arch(site.unit, site.viewpoint, name) {
+        match in_process(name, site) {
             Some(declared) => Some(declared),
-            None => self.in_entity(site.unit, site.viewpoint, name),
+            None => self.outside(site.unit, site.viewpoint, name),
         }
     }
 
@@ -150,24 +157,43 @@ impl<'a> CellNames<'a> {
         body_of(alloc, self.arch)
     }
 
-    /// What the architecture declares for a name.
-    fn in_arch(&self, unit: CellUnit, viewpoint: Place, name: &[u8]) -> Option<Declared<'a>>
-        ensures { option_map declarations.lent result ≡ declared_in_arch unit viewpoint name.now self.now }
+    /// What the architecture declares first for a name, and else the first generic or port of the name.
+    fn first(&self, name: &[u8]) -> Option<Declared<'a>>
+        ensures { option_map declarations.lent result ≡ first_named name.now (body_of self.now.arch ++ declarations.interface_of self.now.entity) }
     {
-        match unit {
-            CellUnit::Entity => None,
-            CellUnit::Architecture => if_before(viewpoint, self.body.get(name).copied()),
+        self.first.get(name).copied()
+    }
+
+    /// The first generic or port of a name.
+    fn generic_or_port(&self, name: &[u8]) -> Option<Declared<'a>>
+        ensures { option_map declarations.lent result ≡ first_named name.now (declarations.interface_of self.now.entity) }
+    {
+        self.interface.get(name).copied()
+    }
+
+    /// What is seen of a name in the architecture. Only one that the architecture declares at the viewpoint or behind it is looked up twice.
+    fn seen_in_arch(&self, viewpoint: Place, name: &[u8]) -> Option<Declared<'a>>
+        ensures { option_map declarations.lent result ≡ option_or (declared_in_arch CellUnit.Architecture viewpoint name.now self.now) (declared_in_entity CellUnit.Architecture viewpoint name.now self.now) }
+    {
+        match self.first(name) {
+            Some(declared) => {
+                if stands_before(declared, viewpoint) {
+                    Some(declared)
+                } else {
+                    self.generic_or_port(name)
+                }
+            }
+            None => None,
         }
     }
 
-    /// The generic or port of a name.
-    fn in_entity(&self, unit: CellUnit, viewpoint: Place, name: &[u8]) -> Option<Declared<'a>>
-        ensures { option_map declarations.lent result ≡ declared_in_entity unit viewpoint name.now self.now }
+    /// What the architecture declares for a name, and else the generic or port of the name.
+    fn outside(&self, unit: CellUnit, viewpoint: Place, name: &[u8]) -> Option<Declared<'a>>
+        ensures { option_map declarations.lent result ≡ option_or (declared_in_arch unit viewpoint name.now self.now) (declared_in_entity unit viewpoint name.now self.now) }
     {
-        let first = self.interface.get(name).copied();
         match unit {
-            CellUnit::Entity => if_before(viewpoint, first),
-            CellUnit::Architecture => first,
+            CellUnit::Entity => if_before(viewpoint, self.generic_or_port(name)),
+            CellUnit::Architecture => self.seen_in_arch(viewpoint, name),
         }
     }
 }

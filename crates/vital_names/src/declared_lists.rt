@@ -65,6 +65,20 @@ pub fn body_of<'a>(alloc: Global, arch: Option<&'a Arch>) -> Result<Vec<Declared
     }
 }
 
+/// What an architecture declares, if there is one, and then the generics and ports of an entity.
+pub fn all_declared<'a>(
+    alloc: Global,
+    entity: &'a Entity,
+    arch: Option<&'a Arch>,
+) -> Result<Vec<Declared<'a>>, AllocError>
+    ensures { IfOk result (λ declared. map lent declared.items ≡ body_of (option_copied arch.entry) ++ interface_of entity.now) }
+{
+    let mut declared = body_of(alloc, arch)?;
+    put_generics(&mut declared, entity.generics.as_slice())?;
+    put_ports(&mut declared, entity.ports.as_slice())?;
+    Ok(declared)
+}
+
 /// Puts what a declaration declares at the end.
 fn put_declared<'a>(
     declared: &mut Vec<Declared<'a>>,
