@@ -16,7 +16,7 @@ use Rattle.vital_nodes.specs.Places.{identifier_of_decl}
 use Rattle.vital_names.specs.declared.site.CellUnit.TheVariants.{Entity, Architecture}
 use Rattle.vital_names.specs.Sites.{Cell}
 use Rattle.vital_names.specs.Viewpoints.{is_last}
-use Rattle.vital_uses.specs.Parts.{asked_of_decl, asked_of_iface, type_of_decl, type_of_iface}
+use Rattle.vital_uses.specs.Parts.{asked_of_decl, asked_of_generic, asked_of_port, type_of_decl, type_of_iface}
 use Rattle.vital_uses.specs.Sited.{Sited, SitedNode, seen_from, seen_from_themselves, sited}
 use Rattle.vital_uses.specs.Statements.{statements}
 
@@ -32,8 +32,11 @@ abbrev pub nodes_in : {A : Type 0} → (A → List Node) → List (Sited A) → 
 nodes_in parts ds = flat_map (λ d. seen_from d.site (parts d.declaration)) ds
 
 -- ---- outside of processes
-abbrev pub interface_nodes : List Iface → List SitedNode
-interface_nodes is = nodes_in asked_of_iface (sited_interface is)
+abbrev pub generic_nodes : List Iface → List SitedNode
+generic_nodes gs = nodes_in asked_of_generic (sited_interface gs)
+
+abbrev pub port_nodes : List Iface → List SitedNode
+port_nodes ps = nodes_in asked_of_port (sited_interface ps)
 
 abbrev pub declaration_nodes : Option Process → List Decl → List SitedNode
 declaration_nodes process ds = nodes_in asked_of_decl (sited_declarations process ds)
@@ -58,7 +61,7 @@ declarations_of (Some a) = a.declarations
 -- The nodes of a cell that stand in no process, with these concurrent statements.
 abbrev pub nodes_outside_of : Entity' → Option Arch → List Conc → List SitedNode
 nodes_outside_of e arch cs =
-    interface_nodes e.generics ++ interface_nodes e.ports ++ declaration_nodes None (declarations_of arch) ++ flat_map nodes_outside cs
+    generic_nodes e.generics ++ port_nodes e.ports ++ declaration_nodes None (declarations_of arch) ++ flat_map nodes_outside cs
 
 abbrev pub nodes_outside_processes : Cell → List SitedNode
 nodes_outside_processes cell = nodes_outside_of cell.entity cell.arch (statements cell.arch)

@@ -11,7 +11,7 @@ ghost use Rattle.vital_uses.specs.Statements as statements;
 ghost use Rattle.vital_uses.specs.Undeclared.{clause_16, undeclared_in};
 
 use crate::asked::{Asked, asked_at_nodes};
-use crate::nodes::{put_declaration_nodes, put_interface_nodes, put_nodes_outside};
+use crate::nodes::{put_declaration_nodes, put_generic_nodes, put_nodes_outside, put_port_nodes};
 use crate::process_uses::ProcessUses;
 use crate::sited::SitedNode;
 use crate::statements::CellStatements;
@@ -204,8 +204,8 @@ fn nodes_outside<'a>(
     ensures { IfOk result (λ nodes. map lent_node nodes.items ≡ spec.nodes_outside_of entity.now (option_copied arch.entry) (map (λ c. c.now) statements.now)) }
 {
     let mut nodes: Vec<SitedNode<'a>> = Vec::new(alloc);
-    put_interface_nodes(alloc, &mut nodes, entity.generics.as_slice())?;
-    put_interface_nodes(alloc, &mut nodes, entity.ports.as_slice())?;
+    put_generic_nodes(alloc, &mut nodes, entity.generics.as_slice())?;
+    put_port_nodes(alloc, &mut nodes, entity.ports.as_slice())?;
     put_declaration_nodes(alloc, &mut nodes, None, declarations_of(arch))?;
     put_nodes_outside(alloc, &mut nodes, statements)?;
     Ok(nodes)

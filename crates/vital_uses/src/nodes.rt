@@ -9,7 +9,7 @@ ghost use Rattle.vital_uses.specs.Nodes as spec;
 ghost use Rattle.vital_names.specs.Sites as sites;
 ghost use Rattle.vital_uses.specs.Sited.{beside, lent_node, seen_from, seen_from_themselves, sited};
 
-use crate::parts::{AskedParts, PartsOf};
+use crate::parts::{AskedParts, GenericParts, PartsOf};
 use crate::sited::{SitedNode, put_seen_from, put_seen_from_themselves};
 use std::alloc::{AllocError, Global};
 use vital_base::Place;
@@ -86,15 +86,33 @@ fn put_nodes_of<'a, T, P: PartsOf<T>>(
     Ok(())
 }
 
-/// Puts the nodes in generics or ports at the end.
-pub fn put_interface_nodes<'a>(
+/// Puts the nodes in generics at the end.
+pub fn put_generic_nodes<'a>(
     alloc: Global,
     nodes: &mut Vec<SitedNode<'a>>,
-    ifaces: &'a [Iface],
+    generics: &'a [Iface],
 ) -> Result<(), AllocError>
-    ensures { OnOk result (map lent_node nodes.new.items ≡ map lent_node nodes.old.items ++ spec.interface_nodes ifaces.now) }
+    ensures { OnOk result (map lent_node nodes.new.items ≡ map lent_node nodes.old.items ++ spec.generic_nodes generics.now) }
 {
-    put_nodes_in(alloc, nodes, &AskedParts, CellUnit::Entity, None, ifaces)
+    put_nodes_in(
+        alloc,
+        nodes,
+        &GenericParts,
+        CellUnit::Entity,
+        None,
+        generics,
+    )
+}
+
+/// Puts the nodes in ports at the end.
+pub fn put_port_nodes<'a>(
+    alloc: Global,
+    nodes: &mut Vec<SitedNode<'a>>,
+    ports: &'a [Iface],
+) -> Result<(), AllocError>
+    ensures { OnOk result (map lent_node nodes.new.items ≡ map lent_node nodes.old.items ++ spec.port_nodes ports.now) }
+{
+    put_nodes_in(alloc, nodes, &AskedParts, CellUnit::Entity, None, ports)
 }
 
 /// Puts the nodes in declarations of the architecture, or of a process of it, at the end.

@@ -4,10 +4,11 @@ ghost use Rattle.std.specs.Prelude.{◌≡◌, List, ◌++◌, map, OnOk};
 ghost use Rattle.std.specs.Option.{option_copied};
 ghost use Rattle.vital_nodes.specs.Nodes.{Node as Node'};
 ghost use Rattle.vital_walk.specs.Seen.{seen};
-ghost use Rattle.vital_uses.specs.Parts.{apart_of_decl, asked_of_alias, asked_of_decl, asked_of_iface, asked_of_object, asked_of_subtype, type_of_decl, type_of_iface, value_of_decl};
+ghost use Rattle.vital_uses.specs.Parts.{apart_of_decl, apart_of_specification, asked_of_alias, asked_of_decl, asked_of_default, asked_of_generic, asked_of_object, asked_of_port, asked_of_subtype, is_level_attribute, type_of_decl, type_of_iface, value_of_decl};
 
 use std::alloc::AllocError;
-use vital_nodes::{Alias, Decl, Iface, Object, Reference, Subtype};
+use vital_level0::{default_word, is_true};
+use vital_nodes::{Alias, Decl, Iface, Object, Reference, Specification, Subtype};
 use vital_walk::{Node, put_if_there, put_parts};
 
 /// A choice of parts of declarations.
@@ -22,14 +23,29 @@ pub trait PartsOf<T> {
 /// The parts in which it is asked what names mean: all but the names of types, and nothing of attributes and components.
 pub struct AskedParts;
 
-/// The parts of attributes and components.
+/// The same of generics: defaults that are words of their types are left out.
+pub struct GenericParts;
+
+/// The parts of attributes and components: all but the TRUE by which a cell says what its level is.
 pub struct ApartParts;
 
 /// The values of constants, signals and variables.
 pub struct ValueParts;
 
+impl PartsOf<Iface> for GenericParts {
+    ghost parts_are = { asked_of_generic };
+
+    fn put<'a>(&self, nodes: &mut Vec<Node<'a>>, declaration: &'a Iface) -> Result<(), AllocError> {
+        if !declaration.is_last {
+            return Ok(());
+        }
+        put_asked_of_subtype(nodes, &declaration.parts.get().subtype)?;
+        put_asked_of_default(nodes, declaration)
+    }
+}
+
 impl PartsOf<Iface> for AskedParts {
-    ghost parts_are = { asked_of_iface };
+    ghost parts_are = { asked_of_port };
 
     fn put<'a>(&self, nodes: &mut Vec<Node<'a>>, declaration: &'a Iface) -> Result<(), AllocError> {
         if !declaration.is_last {
@@ -59,7 +75,8 @@ impl PartsOf<Decl> for ApartParts {
     fn put<'a>(&self, nodes: &mut Vec<Node<'a>>, declaration: &'a Decl) -> Result<(), AllocError> {
         match declaration {
             Decl::Object(_) | Decl::Alias(_) => Ok(()),
-            Decl::Attribute(_, _) | Decl::Specification(_) | Decl::Component(_) => put_parts(
+            Decl::Specification(specification) => put_apart_of_specification(nodes, specification),
+            Decl::Attribute(_, _) | Decl::Component(_) => put_parts(
                 nodes,
                 Node::Declaration(declaration),
             ),
@@ -96,6 +113,16 @@ pub fn put_asked_of_subtype<'a>(
     Ok(())
 }
 
+/// Puts the default of a generic at the end if it is there, and is no word of its type.
+fn put_asked_of_default<'a>(nodes: &mut Vec<Node<'a>>, generic: &'a Iface) -> Result<(), AllocError>
+    ensures { OnOk result (map seen nodes.new.items ≡ map seen nodes.old.items ++ asked_of_default generic.now) }
+{
+    if default_word(generic).is_some() {
+        return Ok(());
+    }
+    put_if_there(nodes, &generic.parts.get().default)
+}
+
 /// Puts what is asked about in an object at the end.
 fn put_asked_of_object<'a>(nodes: &mut Vec<Node<'a>>, object: &'a Object) -> Result<(), AllocError>
     ensures { OnOk result (map seen nodes.new.items ≡ map seen nodes.old.items ++ asked_of_object object.now) }
@@ -117,6 +144,29 @@ fn put_asked_of_alias<'a>(nodes: &mut Vec<Node<'a>>, alias: &'a Alias) -> Result
     }
     nodes.push(Node::Name(&alias.target))?;
     Ok(())
+}
+
+/// Puts the value of an attribute that is specified at the end, unless it is the TRUE of one that says what a cell's level is.
+fn put_apart_of_specification<'a>(
+    nodes: &mut Vec<Node<'a>>,
+    specification: &'a Specification,
+) -> Result<(), AllocError>
+    ensures { OnOk result (map seen nodes.new.items ≡ map seen nodes.old.items ++ apart_of_specification specification.now) }
+{
+    if is_level_attribute(specification.identifier.name.as_slice())
+        && is_true(&specification.value)
+    {
+        return Ok(());
+    }
+    nodes.push(Node::Expression(&specification.value))?;
+    Ok(())
+}
+
+/// Whether an attribute of this name says what a cell's level is.
+fn is_level_attribute(name: &[u8]) -> bool
+    ensures { result ≡ is_level_attribute name.now }
+{
+    name == b"vital_level0".as_slice() || name == b"vital_level1".as_slice()
 }
 
 /// The name of the type of a generic or a port, behind the last identifier of its declaration.

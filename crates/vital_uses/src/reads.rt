@@ -1,7 +1,7 @@
 //! What processes read that their sensitivity lists lack.
 
 ghost use Rattle.std.specs.Prelude.{◌≡◌, [], ◌∷◌, ◌++◌, filter, map, IfOk, OnOk, is_some};
-ghost use Rattle.std.specs.List.{filter_map, flat_map};
+ghost use Rattle.std.specs.List.{filter_map, flat_map, list_any};
 ghost use Rattle.std.specs.Option.{option_map};
 ghost use Rattle.vital_nodes.specs.Nodes.{Expression, Name, parts_of};
 ghost use Rattle.vital_names.specs.FirstNames.{first_in};
@@ -10,7 +10,7 @@ ghost use Rattle.vital_names.specs.Meanings as meanings;
 ghost use Rattle.vital_walk.specs.Names.{plain_identifier};
 ghost use Rattle.vital_walk.specs.Seen.{seen};
 ghost use Rattle.vital_walk.specs.Statements.{all_sequential};
-ghost use Rattle.vital_uses.specs.Asked.{lent_asked};
+ghost use Rattle.vital_uses.specs.Asked.{asked, lent_asked};
 ghost use Rattle.vital_uses.specs.NamesAt.{at, lent_name};
 ghost use Rattle.vital_uses.specs.Reads as spec;
 ghost use Rattle.vital_uses.specs.Sited.{lent_node};
@@ -25,7 +25,7 @@ use crate::unread::is_unread;
 use std::alloc::{AllocError, Global};
 use vital_base::Place;
 use vital_names::{CellUnit, Declared, Meaning, ProcessNames};
-use vital_nodes::{Branch, Mode, ObjectClass, Reference, Stmt};
+use vital_nodes::{Branch, Mode, ObjectClass, Reference, Stmt, walked_in_preorder};
 use vital_walk::{Node, plain_identifier, put_if_there, put_parts};
 
 /// Whether a part of a call is read: it is, unless it is given alone to a formal that isn't read.
@@ -184,6 +184,20 @@ fn put_listed<'a>(listed: &mut Vec<NameAt<'a>>, name: &'a Reference) -> Result<(
     Ok(())
 }
 
+/// Whether an identifier means a signal or port that a list lacks.
+fn is_unlisted<'a>(listed: &FirstPlaces<'a>, asked: Asked<'a>) -> bool
+    ensures { result ≡ spec.is_unlisted (λ name. is_some (first_in listed.now name)) (lent_asked asked.entry) }
+{
+    means_signal(asked.meaning) && !listed.contains_key(asked.identifier.name.as_slice())
+}
+
+/// Whether one of the identifiers means a signal or port that a list lacks.
+fn has_unlisted<'a>(listed: &FirstPlaces<'a>, asked: &[Asked<'a>]) -> bool
+    ensures { result ≡ list_any (λ a. spec.is_unlisted (λ name. is_some (first_in listed.now name)) (lent_asked a)) asked.now }
+{
+    asked.iter().any(|one| is_unlisted(listed, *one))
+}
+
 /// Puts the places of those identifiers at the end that mean a signal or port that a list lacks.
 fn put_unlisted<'a>(
     places: &mut Vec<Place>,
@@ -206,23 +220,39 @@ fn put_if_unlisted<'a>(
 ) -> Result<(), AllocError>
     ensures { OnOk result (places.new.items ≡ places.old.items ++ map (λ a. a.identifier.place) (filter (spec.is_unlisted (λ name. is_some (first_in listed.now name))) (lent_asked asked.entry ∷ []))) }
 {
-    let identifier = asked.identifier;
-    if means_signal(asked.meaning) && !listed.contains_key(identifier.name.as_slice()) {
-        places.push(identifier.place)?;
+    if is_unlisted(listed, asked) {
+        places.push(asked.identifier.place)?;
     }
     Ok(())
 }
 
 impl<'a> ProcessUses<'a> {
-    /// Puts the place of each signal or port that the process reads and its list lacks at the end.
+    /// Puts the place of each signal or port that the process reads and its list lacks at the end. What it reads is among its nodes:
+    /// it is looked for only where one of these is lacking in the list.
     pub fn put_unlisted(&self, alloc: Global, places: &mut Vec<Place>) -> Result<(), AllocError>
         ensures { OnOk result (places.new.items ≡ places.old.items ++ spec.unlisted self.now.0 self.now.1) }
     {
         let names = listed(alloc, self.process().process().sensitivity.as_slice())?;
         let listed = first_places(alloc, &names)?;
+        self.put_lacking(alloc, places, &listed)
+    }
+
+    /// The same, where the names of the list stand at these places.
+    fn put_lacking(
+        &self,
+        alloc: Global,
+        places: &mut Vec<Place>,
+        listed: &FirstPlaces<'a>,
+    ) -> Result<(), AllocError>
+        ensures { OnOk result (places.new.items ≡ places.old.items ++ map (λ a. a.identifier.place) (filter (spec.is_unlisted (λ name. is_some (first_in listed.now name))) (asked self.now.0 (spec.read_nodes self.now.1)))) }
+    {
+        walked_in_preorder();
+        if !has_unlisted(listed, self.asked()) {
+            return Ok(());
+        }
         let nodes = read_nodes(alloc, self.process(), self.statements())?;
         let asked = asked_at_nodes(alloc, self.names(), &nodes)?;
-        put_unlisted(places, &listed, &asked)?;
+        put_unlisted(places, listed, &asked)?;
         Ok(())
     }
 }
