@@ -1,6 +1,7 @@
 pub mod Passed
 pub mod Counts
 pub mod NodeLimits
+pub mod WithinLimits
 pub mod TextLimits
 pub mod ConstantLimits
 pub mod CellLimits

@@ -7,6 +7,9 @@ mod node_limits;
 mod packages;
 mod passed;
 mod text_limits;
+mod within_declarations;
+mod within_expressions;
+mod within_statements;
 
 pub use cell::cell_limit;
 pub use packages::{ConstantLimits, constant_limits, constant_meant, named_at};

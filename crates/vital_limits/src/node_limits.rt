@@ -4,6 +4,8 @@ ghost use Rattle.std.specs.Prelude.{◌≡◌, ◌++◌, IfOk, OnOk};
 ghost use Rattle.std.specs.List.{flat_map};
 ghost use Rattle.std.specs.Option.{option_copied};
 ghost use Rattle.vital_limits.specs.NodeLimits as spec;
+ghost use Rattle.vital_limits.specs.declared.passed.CellLimit.TheVariants.{Delay};
+ghost use Rattle.vital_nodes.specs.Nodes.{Expression};
 ghost use Rattle.vital_walk.specs.Seen.{seen};
 
 use crate::counts::{listed, listed_in, longest};
@@ -40,35 +42,10 @@ pub fn put_if(
     Ok(())
 }
 
-/// Puts the limits that a node passes at the end, without those of what it holds.
-#[tactic(auto, unfolding(crate::specs::NodeLimits::limits_of_node))]
-pub fn put_limits_of_node(
-    limits: &mut Vec<PassedLimit>,
-    library: &LibraryNames<'_>,
-    node: Node<'_>,
-) -> Result<(), AllocError>
-    ensures { OnOk result (limits.new.items ≡ limits.old.items ++ spec.limits_of_node (seen node.entry)) }
-{
-    match node {
-        Node::Declaration(decl) => put_of_declaration(limits, library, decl),
-        Node::Concurrent(conc) => put_of_concurrent(limits, library, conc),
-        Node::Sequential(stmt) => put_of_sequential(limits, library, stmt),
-        Node::Expression(expr) => {
-            put_if(
-                limits,
-                is_too_long_node(node),
-                CellLimit::Delay,
-                expr.place(),
-            )
-        }
-        _ => Ok(()),
-    }
-}
-
 // ---- tables
 
 /// Puts the limits that a declaration passes at the end.
-fn put_of_declaration(
+pub fn put_of_declaration(
     limits: &mut Vec<PassedLimit>,
     library: &LibraryNames<'_>,
     decl: &Decl,
@@ -158,7 +135,7 @@ fn is_path_delay(library: &LibraryNames<'_>, name: &[u8]) -> bool
 }
 
 /// Puts the limits of a concurrent statement at the end.
-fn put_of_concurrent(
+pub fn put_of_concurrent(
     limits: &mut Vec<PassedLimit>,
     library: &LibraryNames<'_>,
     conc: &Conc,
@@ -172,7 +149,7 @@ fn put_of_concurrent(
 }
 
 /// Puts the limits of a statement of a process at the end.
-fn put_of_sequential(
+pub fn put_of_sequential(
     limits: &mut Vec<PassedLimit>,
     library: &LibraryNames<'_>,
     stmt: &Stmt,
@@ -260,6 +237,29 @@ fn is_too_long(physical: &Physical) -> bool
     match UnitOfTime::named(physical.unit.name.as_slice()) {
         Some(unit) => unit.literal_time(physical.number.as_slice()).is_none(),
         None => false,
+    }
+}
+
+/// Puts the limit of a time literal at the end.
+fn put_of_time(limits: &mut Vec<PassedLimit>, physical: &Physical) -> Result<(), AllocError>
+    ensures { OnOk result (limits.new.items ≡ limits.old.items ++ spec.if_passed (spec.is_too_long physical.now) Delay physical.now.place) }
+{
+    put_if(
+        limits,
+        is_too_long(physical),
+        CellLimit::Delay,
+        physical.place,
+    )
+}
+
+/// Puts the limit of an expression at the end, which only a time literal passes.
+#[tactic(auto, unfolding(crate::specs::NodeLimits::limits_of_node))]
+pub fn put_of_expression(limits: &mut Vec<PassedLimit>, expr: &Expr) -> Result<(), AllocError>
+    ensures { OnOk result (limits.new.items ≡ limits.old.items ++ spec.limits_of_node (Expression expr.now)) }
+{
+    match expr {
+        Expr::Physical(physical) => put_of_time(limits, physical.get()),
+        _ => Ok(()),
     }
 }
 

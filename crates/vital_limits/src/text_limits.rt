@@ -1,18 +1,19 @@
 //! The limits that the text of a cell passes itself.
 
-ghost use Rattle.std.specs.Prelude.{◌≡◌, ◌++◌, map, IfOk, OnOk};
-ghost use Rattle.std.specs.List.{flat_map};
+ghost use Rattle.std.specs.Prelude.{◌≡◌, ◌++◌, IfOk, OnOk};
 ghost use Rattle.std.specs.Option.{option_copied};
-ghost use Rattle.vital_limits.specs.NodeLimits.{limits_of_node};
 ghost use Rattle.vital_limits.specs.TextLimits as spec;
-ghost use Rattle.vital_walk.specs.Seen.{seen};
+ghost use Rattle.vital_limits.specs.WithinLimits.{limits_within_all};
+ghost use Rattle.vital_nodes.specs.Nodes.{parts_of_unit};
+ghost use Rattle.vital_nodes.specs.declared.unit.Unit.TheVariants as units;
 
-use crate::node_limits::{put_if, put_limits_of_node};
+use crate::node_limits::put_if;
 use crate::passed::{CellLimit, PassedLimit};
+use crate::within_declarations::{put_within_decls, put_within_ifaces};
+use crate::within_statements::put_within_concs;
 use std::alloc::{AllocError, Global};
 use vital_names::{CellNames, LibraryNames};
-use vital_nodes::{Arch, Iface};
-use vital_walk::{Node, nodes_of_arch, nodes_of_entity};
+use vital_nodes::{Arch, Entity, Iface};
 
 /// A cell has at most so many ports.
 const MOST_PORTS: usize = 256;
@@ -24,9 +25,8 @@ pub fn own_limits(alloc: Global, names: &CellNames<'_>) -> Result<Vec<PassedLimi
     let mut limits = Vec::new(alloc);
     let entity = names.entity();
     put_of_ports(&mut limits, entity.ports.as_slice())?;
-    let nodes = nodes_of_entity(alloc, entity)?;
-    put_of_nodes(&mut limits, names.library(), &nodes)?;
-    put_of_arch(alloc, &mut limits, names.library(), names.arch())?;
+    put_of_entity(&mut limits, names.library(), entity)?;
+    put_of_arch(&mut limits, names.library(), names.arch())?;
     Ok(limits)
 }
 
@@ -47,23 +47,47 @@ fn put_at(limits: &mut Vec<PassedLimit>, port: Option<&Iface>) -> Result<(), All
     }
 }
 
-/// Puts the limits that nodes pass at the end.
-fn put_of_nodes(
+/// Puts the limits of the parts of an entity and of all that they hold at the end.
+#[tactic(auto, unfolding(vital_nodes::specs::Nodes::parts_of_unit))]
+fn put_in_entity(
     limits: &mut Vec<PassedLimit>,
     library: &LibraryNames<'_>,
-    nodes: &[Node<'_>],
+    entity: &Entity,
 ) -> Result<(), AllocError>
-    ensures { OnOk result (limits.new.items ≡ limits.old.items ++ flat_map limits_of_node (map seen nodes.now)) }
+    ensures { OnOk result (limits.new.items ≡ limits.old.items ++ limits_within_all (parts_of_unit (units.Entity entity.now))) }
 {
-    for node in nodes {
-        put_limits_of_node(limits, library, *node)?;
-    }
-    Ok(())
+    put_within_ifaces(limits, entity.generics.as_slice())?;
+    put_within_ifaces(limits, entity.ports.as_slice())?;
+    put_within_decls(limits, library, entity.declarations.as_slice())?;
+    put_within_concs(limits, library, entity.statements.as_slice())
 }
 
-/// Puts the limits that the nodes of an architecture pass at the end, if there is one.
+/// Puts the limits of all nodes of an entity at the end.
+fn put_of_entity(
+    limits: &mut Vec<PassedLimit>,
+    library: &LibraryNames<'_>,
+    entity: &Entity,
+) -> Result<(), AllocError>
+    ensures { OnOk result (limits.new.items ≡ limits.old.items ++ spec.limits_of_unit (units.Entity entity.now)) }
+{
+    put_in_entity(limits, library, entity)
+}
+
+/// Puts the limits of the parts of an architecture and of all that they hold at the end.
+#[tactic(auto, unfolding(vital_nodes::specs::Nodes::parts_of_unit))]
+fn put_in_arch(
+    limits: &mut Vec<PassedLimit>,
+    library: &LibraryNames<'_>,
+    arch: &Arch,
+) -> Result<(), AllocError>
+    ensures { OnOk result (limits.new.items ≡ limits.old.items ++ limits_within_all (parts_of_unit (units.Arch arch.now))) }
+{
+    put_within_decls(limits, library, arch.declarations.as_slice())?;
+    put_within_concs(limits, library, arch.statements.as_slice())
+}
+
+/// Puts the limits of all nodes of an architecture at the end, if there is one.
 fn put_of_arch(
-    alloc: Global,
     limits: &mut Vec<PassedLimit>,
     library: &LibraryNames<'_>,
     arch: Option<&Arch>,
@@ -71,10 +95,7 @@ fn put_of_arch(
     ensures { OnOk result (limits.new.items ≡ limits.old.items ++ spec.limits_of_arch (option_copied arch.entry)) }
 {
     match arch {
-        Some(arch) => {
-            let nodes = nodes_of_arch(alloc, arch)?;
-            put_of_nodes(limits, library, &nodes)
-        }
+        Some(arch) => put_in_arch(limits, library, arch),
         None => Ok(()),
     }
 }
