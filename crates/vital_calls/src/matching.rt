@@ -61,6 +61,7 @@ pub fn form_of(formals: Formals, position: usize, item: &Item) -> Option<ActualF
 }
 
 /// Whether an item comes by its position: a value, a range or `open`.
+#[inline(always)]
 #[tactic(auto, unfolding(crate::specs::Matching::is_positional))]
 fn is_positional(item: &Item) -> bool
     ensures { result ≡ spec.is_positional item.now }
@@ -96,6 +97,7 @@ fn has_late_position(items: &[Item]) -> bool
 }
 
 /// The name before `=>`, where it is a plain identifier.
+#[inline(always)]
 fn name_of(item: &Item) -> Option<&[u8]>
     ensures { option_copied result ≡ spec.name_of item.now }
 {
@@ -109,6 +111,7 @@ fn name_of(item: &Item) -> Option<&[u8]>
 }
 
 /// The name of the formal at a position, or else the name before `=>`.
+#[inline(always)]
 fn name_at<'a>(formals: &'a [Formal], position: usize, item: &'a Item) -> Option<&'a [u8]>
     ensures { option_copied result ≡ spec.name_at (all_lent formals.now) position item.now }
 {
@@ -123,6 +126,7 @@ fn name_at<'a>(formals: &'a [Formal], position: usize, item: &'a Item) -> Option
 }
 
 /// The name of the formal that the item at a position of a call, from 0, is for, if it is for one.
+#[inline(always)]
 #[tactic(auto, unfolding(crate::specs::Matching::formal_name))]
 pub fn formal_name(formals: Formals, position: usize, item: &Item) -> Option<&[u8]>
     ensures { option_copied result ≡ spec.formal_name (lent formals) position item.now }
@@ -135,6 +139,7 @@ pub fn formal_name(formals: Formals, position: usize, item: &Item) -> Option<&[u
 }
 
 /// Whether the item at a position is for the formal of a name.
+#[inline(always)]
 fn is_for(name: &[u8], formals: Formals, position: usize, item: &Item) -> bool
     ensures { result ≡ spec.is_for name.now (lent formals) position item.now }
 {

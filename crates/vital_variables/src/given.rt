@@ -46,10 +46,9 @@ fn identifier_given(item: &Item) -> Option<&Identifier>
 fn given_by<'a>(formals: FormalUse, procedure: Procedure, item: &'a Item) -> Option<&'a Identifier>
     ensures { option_copied result ≡ spec.given_by formals procedure item.now }
 {
-    if is_given(formals, procedure, item) {
-        identifier_given(item)
-    } else {
-        None
+    match identifier_given(item) {
+        Some(identifier) if is_given(formals, procedure, item) => Some(identifier),
+        _ => None,
     }
 }
 
