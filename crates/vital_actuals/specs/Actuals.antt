@@ -25,6 +25,7 @@ use Rattle.vital_operands.specs.declared.tree.TimeExpr.{TimeExpr}
 use Rattle.vital_operands.specs.declared.tree.TimeExpr.TheVariants as time
 use Rattle.vital_operands.specs.Faults.{own_breach}
 use Rattle.vital_operands.specs.Named.{state_table_named, table_named}
+use Rattle.vital_statements.specs.Parentheses.{bare_identifier}
 use Rattle.vital_walk.specs.Items.{actual as actual_given}
 use Rattle.vital_walk.specs.Names.{identifier_of}
 use Rattle.vital_actuals.specs.Kinds.{name_for}
@@ -76,6 +77,11 @@ only_zero c e t = if is_zero t then typed actual.Fixed else broken (breach c e)
 abbrev pub name_as : Context → ActualForm → Expr → Outcome Actual
 name_as c f e = map_typed (λ n. actual.Named n) (by_name (name_for c.position f) c e)
 
+-- The generic of a wire delay, which is the name of a delay and so keeps its type in parentheses.
+abbrev pub wire_delay_of : Context → Expr → Outcome Actual
+wire_delay_of c e =
+    map_typed (λ n. actual.Named n) (or_broken (breach c e) (option_and_then (name_for c.position form.WireDelay) (bare_identifier e)))
+
 -- What an expression is as an actual of a form.
 abbrev pub actual_as : Context → ActualForm → Expr → Outcome Actual
 actual_as c form.Result e = map_typed (λ t. actual.Target t) (by_name (whole_target c.position) c e)
@@ -95,6 +101,7 @@ actual_as c form.OnlyFalse e = and_then (only_boolean false c e) (boolean_of c e
 actual_as c form.OnlyTrue e = and_then (only_boolean true c e) (boolean_of c e)
 actual_as c form.OnlyZero e = and_then (only_zero c e) (time_of c e)
 actual_as c form.EdgeSymbol e = map_typed (λ b. actual.EdgeSymbol b) (or_broken (breach c e) (edge_symbol e))
+actual_as c form.WireDelay e = wire_delay_of c e
 actual_as c (form.Paths d) e = map_typed (λ ps. actual.Paths ps) (paths_of c d e)
 actual_as c f e = name_as c f e
 

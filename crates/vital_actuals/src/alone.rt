@@ -8,7 +8,7 @@ ghost use Rattle.vital_expr.specs.Seen.{lent};
 use crate::actual::Actual;
 use crate::by_name::{
     mode_alone, named, result_named, severity_alone, state_table_named, truth_table_named,
-    vector_named,
+    vector_named, wire_delay_named,
 };
 use crate::literal::{edge_symbol, state_count};
 use std::alloc::AllocError;
@@ -28,6 +28,21 @@ pub fn read_name(
     ensures places { OnOk result (broken.new.items ≡ broken.old.items ++ (spec.name_as (lent reader.now) form expr.now).places) }
 {
     match named(reader, form, expr)? {
+        Some(name) => Ok(Some(Actual::Named(name))),
+        None => reader.broken(expr, broken),
+    }
+}
+
+/// The generic of a wire delay. Alone of all names it may stand in parentheses.
+pub fn read_wire_delay(
+    reader: &Reader<'_>,
+    expr: &Expr,
+    broken: &mut Vec<Place>,
+) -> Result<Option<Actual>, AllocError>
+    ensures tree { IfOk result (λ tree. tree ≡ (spec.actual_as (lent reader.now) form.WireDelay expr.now).tree) }
+    ensures places { OnOk result (broken.new.items ≡ broken.old.items ++ (spec.actual_as (lent reader.now) form.WireDelay expr.now).places) }
+{
+    match wire_delay_named(reader, expr)? {
         Some(name) => Ok(Some(Actual::Named(name))),
         None => reader.broken(expr, broken),
     }

@@ -5,9 +5,11 @@ ghost use Rattle.std.specs.Option.{option_and_then};
 ghost use Rattle.vital_actuals.specs.Kinds.{name_for as name_for'};
 ghost use Rattle.vital_actuals.specs.Literals as literals;
 ghost use Rattle.vital_actuals.specs.Targets as targets;
+ghost use Rattle.vital_calls.specs.declared.actual_form.ActualForm.TheVariants as form;
 ghost use Rattle.vital_expr.specs.Seen as readers;
 ghost use Rattle.vital_operands.specs.Faults.{own_breach};
 ghost use Rattle.vital_operands.specs.Named as names;
+ghost use Rattle.vital_statements.specs.Parentheses as parentheses;
 ghost use Rattle.vital_walk.specs.Names as walk;
 ghost use Rattle.vital_walk.specs.Seen.{seen};
 
@@ -21,6 +23,7 @@ use vital_expr::Reader;
 use vital_names::Severity;
 use vital_nodes::Expr;
 use vital_operands::ConstantName;
+use vital_statements::bare_identifier;
 use vital_timing::GlitchMode;
 use vital_walk::{Node, identifier_of};
 
@@ -45,6 +48,17 @@ pub fn named(reader: &Reader<'_>, form: ActualForm, expr: &Expr) -> Result<Optio
 {
     match identifier_of(expr) {
         Some(identifier) => name_for(reader.alloc, &reader.position, form, identifier),
+        None => Ok(None),
+    }
+}
+
+/// The name of the generic of a wire delay, in parentheses or not.
+pub fn wire_delay_named(reader: &Reader<'_>, expr: &Expr) -> Result<Option<Name>, AllocError>
+    ensures { IfOk result (λ name. name ≡ option_and_then (name_for' (readers.lent reader.now).position form.WireDelay) (parentheses.bare_identifier expr.now)) }
+{
+    let asked = ActualForm::WireDelay;
+    match bare_identifier(expr) {
+        Some(identifier) => name_for(reader.alloc, &reader.position, asked, identifier),
         None => Ok(None),
     }
 }

@@ -10,7 +10,7 @@ ghost use Rattle.vital_expr.specs.Seen.{lent};
 use crate::actual::Actual;
 use crate::alone::{
     read_edge_symbol, read_mode, read_name, read_previous_data, read_result, read_severity,
-    read_state_count, read_state_table, read_truth_table,
+    read_state_count, read_state_table, read_truth_table, read_wire_delay,
 };
 use crate::by_name::put_fault;
 use crate::path::paths;
@@ -230,6 +230,7 @@ fn actual_as(
         ActualForm::OnlyTrue => read_only_boolean(reader, true, expr, broken),
         ActualForm::OnlyZero => read_only_zero(reader, expr, broken),
         ActualForm::EdgeSymbol => read_edge_symbol(reader, expr, broken),
+        ActualForm::WireDelay => read_wire_delay(reader, expr, broken),
         ActualForm::Paths(asked) => read_paths(reader, asked, expr, broken),
         _ => read_name(reader, form, expr, broken),
     }
