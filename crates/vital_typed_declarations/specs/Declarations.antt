@@ -1,10 +1,12 @@
 -- Where the values and defaults of declarations are not of their types.
-use Rattle.std.specs.Prelude.{List, [], ◌++◌, if◌then◌else◌}
+use Rattle.std.specs.Prelude.{List, [], ◌++◌, Option, Some, None, if◌then◌else◌}
 use Rattle.std.specs.List.{flat_map}
 use Rattle.vital_base.specs.declared.place.Place.{Place}
 use Rattle.vital_declaration_clauses.specs.Regions.{Region, regions}
-use Rattle.vital_expr.specs.Outcomes.{Outcome}
+use Rattle.vital_expr.specs.Outcomes.{Outcome, typed}
 use Rattle.vital_expr.specs.Readings.{Context}
+use Rattle.vital_level0.specs.declared.default_words.DefaultWord.{DefaultWord}
+use Rattle.vital_level0.specs.DefaultWords.{default_word}
 use Rattle.vital_names.specs.Sites.{Cell, Site}
 use Rattle.vital_names.specs.Sites as sites
 use Rattle.vital_nodes.specs.declared.decl.Decl.{Decl}
@@ -18,7 +20,7 @@ use Rattle.vital_typed_declarations.specs.declared.asked_type.AskedType.{AskedTy
 use Rattle.vital_typed_declarations.specs.declared.sited.SitedDeclaration.{SitedDeclaration}
 use Rattle.vital_typed_declarations.specs.declared.value.TypedValue.{TypedValue}
 use Rattle.vital_typed_declarations.specs.Asked.{of_generic, of_object, of_port}
-use Rattle.vital_typed_declarations.specs.Values.{value_if_given}
+use Rattle.vital_typed_declarations.specs.Values.{value_if_given, value_of_word}
 
 -- What is borrowed of a declaration at its site.
 abbrev pub lent_sited : {A : Type 0} → SitedDeclaration A → Sited A
@@ -55,18 +57,29 @@ broken_in_region cell faults r = flat_map (broken_at cell faults) (sited_declara
 abbrev pub in_interface : Cell → List Place → Site → Context
 in_interface cell faults site = record { position = InInterface cell site; faults = faults }
 
--- The default of a generic or a port, of the type that is asked. Those that are declared together share it.
+-- The default of a generic or a port, of the type that is asked.
 abbrev pub default_value : AskedType → Context → Iface → Outcome TypedValue
 default_value t c i = value_if_given c t i.parts.default
 
-abbrev pub broken_default : AskedType → Cell → List Place → Sited Iface → List Place
-broken_default t cell faults i = if i.declaration.is_last then (default_value t (in_interface cell faults i.site) i.declaration).places else []
+abbrev pub generic_value_by : Context → Iface → Option DefaultWord → Outcome TypedValue
+generic_value_by c i (Some w) = typed (value_of_word w)
+generic_value_by c i None = default_value (of_generic i) c i
 
+-- The default of a generic, of its type. A word that Level 0 gives for that type is read by its text, whatever has its name.
+abbrev pub generic_value : Context → Iface → Outcome TypedValue
+generic_value c i = generic_value_by c i (default_word i)
+
+-- The default of a port, of its type.
+abbrev pub port_value : Context → Iface → Outcome TypedValue
+port_value c i = default_value (of_port i) c i
+
+-- Generics that are declared together share their default, which is judged once.
 abbrev pub broken_generic : Cell → List Place → Sited Iface → List Place
-broken_generic cell faults i = broken_default (of_generic i.declaration) cell faults i
+broken_generic cell faults i = if i.declaration.is_last then (generic_value (in_interface cell faults i.site) i.declaration).places else []
 
+-- So do ports.
 abbrev pub broken_port : Cell → List Place → Sited Iface → List Place
-broken_port cell faults i = broken_default (of_port i.declaration) cell faults i
+broken_port cell faults i = if i.declaration.is_last then (port_value (in_interface cell faults i.site) i.declaration).places else []
 
 -- ---- all of a cell
 

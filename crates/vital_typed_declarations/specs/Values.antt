@@ -4,8 +4,13 @@ use Rattle.std.specs.Option.{option_and_then}
 use Rattle.vital_declarations.specs.Types.{DeclaredType, Plain, type_of}
 use Rattle.vital_expr.specs.Outcomes.{Outcome, map_typed, typed}
 use Rattle.vital_expr.specs.Readings.{Context, boolean_of, delay_of, level_of, text_of, time_of, vector_of}
+use Rattle.vital_level0.specs.declared.default_words.DefaultWord.{DefaultWord}
+use Rattle.vital_level0.specs.declared.default_words.DefaultWord.TheVariants as word
 use Rattle.vital_names.specs.declared.predeclared.TypeName.TheVariants as type
 use Rattle.vital_nodes.specs.declared.expr.Expr.{Expr}
+use Rattle.vital_operands.specs.declared.tree.BooleanExpr.TheVariants as truth
+use Rattle.vital_operands.specs.declared.tree.DelayExpr.TheVariants as delay
+use Rattle.vital_operands.specs.Named.{even_delay}
 use Rattle.vital_operands.specs.Positions.{Position, Standing, Operand, Constant, Word, Nothing, standing}
 use Rattle.vital_walk.specs.Names.{identifier_of}
 use Rattle.vital_typed_declarations.specs.declared.asked_type.AskedType.{AskedType}
@@ -33,6 +38,13 @@ boolean_constant p e = option_and_then (λ i. boolean_constant_in (standing p i)
 abbrev pub boolean_default_by : Context → Expr → Option ℕ → Outcome TypedValue
 boolean_default_by c e (Some n) = typed (value.PackageBoolean n)
 boolean_default_by c e None = map_typed (λ b. value.Boolean b) (boolean_of c e)
+
+-- ---- words of Level 0
+
+-- What a word is that Level 0 gives as a default for its type.
+abbrev pub value_of_word : DefaultWord → TypedValue
+value_of_word (word.Boolean b) = value.Boolean (truth.Literal b)
+value_of_word (word.ZeroDelay d) = value.Delay (delay.Literal (even_delay d 0))
 
 -- ---- values
 

@@ -2,41 +2,35 @@
 
 ghost use Rattle.std.specs.Prelude.{◌≡◌, ◌++◌, map, OnOk};
 ghost use Rattle.std.specs.List.{flat_map};
+ghost use Rattle.vital_expr.specs.Seen.{lent};
+ghost use Rattle.vital_names.specs.Sites as sites;
 ghost use Rattle.vital_typed_declarations.specs.Declarations as spec;
 ghost use Rattle.vital_uses.specs.Nodes.{sited_interface};
 
-use crate::asked_type::{AskedType, asked_of_generic, asked_of_port};
+use crate::asked_type::asked_of_port;
 use crate::sited::{SitedDeclaration, sited_declarations};
-use crate::value::read_value_if_given;
+use crate::value::{read_generic_default, read_value_if_given};
 use std::alloc::{AllocError, Global};
 use vital_base::Place;
 use vital_expr::Reader;
-use vital_names::{CellNames, CellUnit};
+use vital_names::{CellNames, CellUnit, Site};
 use vital_nodes::Iface;
 use vital_operands::{Faults, Position};
 
-/// Puts where the default of a generic or a port is not of the type that is asked at the end.
-fn put_broken_default<'a>(
+/// What the default of a generic or a port is read by.
+fn reader_at<'a>(
     alloc: Global,
     names: &'a CellNames<'a>,
     faults: &'a Faults<'a>,
-    asked: AskedType,
-    iface: &SitedDeclaration<'a, Iface>,
-    broken: &mut Vec<Place>,
-) -> Result<(), AllocError>
-    ensures { OnOk result (broken.new.items ≡ broken.old.items ++ spec.broken_default asked names.now faults.now (spec.lent_sited iface.now)) }
+    site: Site<'a>,
+) -> Reader<'a>
+    ensures { lent result ≡ spec.in_interface names.now faults.now (sites.lent site.entry) }
 {
-    if !iface.declaration.is_last {
-        return Ok(());
-    }
-    let reader = Reader {
+    Reader {
         alloc,
-        position: Position::Interface(names, iface.site),
+        position: Position::Interface(names, site),
         faults,
-    };
-    let default = &iface.declaration.parts.get().default;
-    read_value_if_given(&reader, asked, default, broken)?;
-    Ok(())
+    }
 }
 
 /// Puts where the default of a generic is not of its type at the end.
@@ -49,8 +43,12 @@ fn put_broken_generic<'a>(
 ) -> Result<(), AllocError>
     ensures { OnOk result (broken.new.items ≡ broken.old.items ++ spec.broken_generic names.now faults.now (spec.lent_sited generic.now)) }
 {
-    let asked = asked_of_generic(names.library(), generic.declaration);
-    put_broken_default(alloc, names, faults, asked, generic, broken)
+    if !generic.declaration.is_last {
+        return Ok(());
+    }
+    let reader = reader_at(alloc, names, faults, generic.site);
+    read_generic_default(&reader, generic.declaration, broken)?;
+    Ok(())
 }
 
 /// Puts where the defaults of generics are not of their types at the end.
@@ -79,8 +77,14 @@ fn put_broken_port<'a>(
 ) -> Result<(), AllocError>
     ensures { OnOk result (broken.new.items ≡ broken.old.items ++ spec.broken_port names.now faults.now (spec.lent_sited port.now)) }
 {
+    if !port.declaration.is_last {
+        return Ok(());
+    }
+    let reader = reader_at(alloc, names, faults, port.site);
     let asked = asked_of_port(names.library(), port.declaration);
-    put_broken_default(alloc, names, faults, asked, port, broken)
+    let default = &port.declaration.parts.get().default;
+    read_value_if_given(&reader, asked, default, broken)?;
+    Ok(())
 }
 
 /// Puts where the defaults of ports are not of their types at the end.

@@ -4,19 +4,23 @@ ghost use Rattle.std.specs.Prelude.{◌≡◌, ◌++◌, IfOk, OnOk};
 ghost use Rattle.vital_declarations.specs.Types as types;
 ghost use Rattle.vital_expr.specs.Seen.{lent};
 ghost use Rattle.vital_operands.specs.Seen as operands;
+ghost use Rattle.vital_typed_declarations.specs.Declarations.{generic_value};
 ghost use Rattle.vital_typed_declarations.specs.Values as spec;
 ghost use Rattle.vital_typed_declarations.specs.declared.asked_type.AskedType.TheVariants as asked_types;
 
-use crate::asked_type::AskedType;
+use crate::asked_type::{AskedType, asked_of_generic};
 use std::alloc::AllocError;
 use vital_base::Place;
 use vital_boolean_expr::boolean;
 use vital_declarations::{DeclaredType, type_of};
 use vital_expr::{Reader, text};
 use vital_level_expr::{level, vector};
+use vital_level0::{DefaultWord, default_word};
 use vital_names::TypeName;
-use vital_nodes::Expr;
-use vital_operands::{BooleanExpr, DelayExpr, LevelExpr, Position, Standing, TimeExpr, VectorExpr};
+use vital_nodes::{Expr, Iface};
+use vital_operands::{
+    BooleanExpr, DelayExpr, LevelExpr, Position, Standing, TimeExpr, VectorExpr, even_delay,
+};
 use vital_time_expr::{delay, time};
 use vital_timing::DelayType;
 use vital_walk::identifier_of;
@@ -215,5 +219,35 @@ pub fn read_value_if_given(
     match value {
         Some(expr) => read_value(reader, asked, expr, broken),
         None => Ok(Some(TypedValue::Missing)),
+    }
+}
+
+/// What a word is that Level 0 gives as a default for its type.
+fn value_of_word(word: DefaultWord) -> TypedValue
+    ensures { result ≡ spec.value_of_word word }
+{
+    match word {
+        DefaultWord::Boolean(truth) => TypedValue::Boolean(BooleanExpr::Literal(truth)),
+        DefaultWord::ZeroDelay(delay_type) => {
+            TypedValue::Delay(DelayExpr::Literal(even_delay(delay_type, 0)))
+        }
+    }
+}
+
+/// The default of a generic, of its type, or where it is not of that type. A word that Level 0 gives for that type is read by its text.
+pub fn read_generic_default(
+    reader: &Reader<'_>,
+    generic: &Iface,
+    broken: &mut Vec<Place>,
+) -> Result<Option<TypedValue>, AllocError>
+    ensures tree { IfOk result (λ tree. tree ≡ (generic_value (lent reader.now) generic.now).tree) }
+    ensures places { OnOk result (broken.new.items ≡ broken.old.items ++ (generic_value (lent reader.now) generic.now).places) }
+{
+    match default_word(generic) {
+        Some(word) => Ok(Some(value_of_word(word))),
+        None => {
+            let asked = asked_of_generic(reader.position.library(), generic);
+            read_value_if_given(reader, asked, &generic.parts.get().default, broken)
+        }
     }
 }
