@@ -6,23 +6,37 @@ ghost use Rattle.vital_expr.specs.Seen.{lent};
 ghost use Rattle.vital_level1.specs.Forms as spec;
 ghost use Rattle.vital_typed_declarations.specs.Declarations.{lent_sited};
 ghost use Rattle.vital_typed_statements.specs.Uses.{truth_use_at as truth_use_at'};
+ghost use Rattle.vital_nodes.specs.Nodes.{expression_if_there};
 ghost use Rattle.vital_nodes.specs.Walk.{nodes_of_all as nodes_of_all'};
-ghost use Rattle.vital_uses.specs.Parts.{value_of_decl};
 ghost use Rattle.vital_walk.specs.Seen.{seen};
 
 use std::alloc::{AllocError, Global};
 use vital_declaration_clauses::Region;
 use vital_expr::Reader;
 use vital_names::{CellNames, CellUnit};
-use vital_nodes::{Decl, Iface};
+use vital_nodes::{Decl, Expr, Iface};
 use vital_operands::{Faults, Position};
 use vital_typed_declarations::{SitedDeclaration, sited_declarations};
 use vital_typed_statements::{TableUse, truth_use_at};
 use vital_uses::SitedNode;
-use vital_walk::{Node, nodes_of_all, put_if_there};
+use vital_walk::{Node, nodes_of};
 
-/// Puts the truth table that a node uses at the end.
+/// Puts the truth table that a node uses at the end. Only a name uses one.
 fn put_truth_use(
+    reader: &Reader<'_>,
+    node: Node<'_>,
+    uses: &mut Vec<TableUse>,
+) -> Result<(), AllocError>
+    ensures { OnOk result (uses.new.items ≡ uses.old.items ++ filter_map (truth_use_at' (lent reader.now)) (seen node.entry ∷ [])) }
+{
+    match node {
+        Node::Name(_) => put_used_at(reader, node, uses),
+        _ => Ok(()),
+    }
+}
+
+/// Puts the truth table that is used at a node at the end.
+fn put_used_at(
     reader: &Reader<'_>,
     node: Node<'_>,
     uses: &mut Vec<TableUse>,
@@ -63,18 +77,25 @@ pub fn put_truth_uses_at(
     Ok(())
 }
 
-/// The nodes of the default of a generic or port. Those that are declared together share it, and it counts at the last.
-fn nodes_of_default<'a>(alloc: Global, iface: &'a Iface) -> Result<Vec<Node<'a>>, AllocError>
-    ensures { IfOk result (λ nodes. map seen nodes.items ≡ nodes_of_all' (spec.default_of_iface iface.now)) }
+/// Puts the truth tables that a value uses at the end, if there is one.
+fn put_of_value(
+    reader: &Reader<'_>,
+    value: &Option<Expr>,
+    uses: &mut Vec<TableUse>,
+) -> Result<(), AllocError>
+    ensures { OnOk result (uses.new.items ≡ uses.old.items ++ spec.truth_uses (lent reader.now) (nodes_of_all' (expression_if_there value.now))) }
 {
-    let mut parts = Vec::new(alloc);
-    if iface.is_last {
-        put_if_there(&mut parts, &iface.parts.get().default)?;
+    match value {
+        Some(expr) => {
+            let nodes = nodes_of(reader.alloc, Node::Expression(expr))?;
+            put_truth_uses(reader, &nodes, uses)
+        }
+        None => Ok(()),
     }
-    nodes_of_all(alloc, parts)
 }
 
-/// Puts the truth tables that the default of a generic or port uses at the end.
+/// Puts the truth tables that the default of a generic or port uses at the end. Those that are declared together share it, and it counts
+/// at the last.
 fn put_of_iface<'a>(
     alloc: Global,
     names: &'a CellNames<'a>,
@@ -84,13 +105,15 @@ fn put_of_iface<'a>(
 ) -> Result<(), AllocError>
     ensures { OnOk result (uses.new.items ≡ uses.old.items ++ spec.uses_of_iface names.now faults.now (lent_sited iface.now)) }
 {
+    if !iface.declaration.is_last {
+        return Ok(());
+    }
     let reader = Reader {
         alloc,
         position: Position::Interface(names, iface.site),
         faults,
     };
-    let nodes = nodes_of_default(alloc, iface.declaration)?;
-    put_truth_uses(&reader, &nodes, uses)
+    put_of_value(&reader, &iface.declaration.parts.get().default, uses)
 }
 
 /// Puts the truth tables that the defaults of generics or ports use at the end.
@@ -109,20 +132,8 @@ fn put_of_ifaces<'a>(
     Ok(())
 }
 
-/// The nodes of the value of a declaration. Objects that are declared together share it, and it counts at the last.
-fn nodes_of_value<'a>(alloc: Global, declaration: &'a Decl) -> Result<Vec<Node<'a>>, AllocError>
-    ensures { IfOk result (λ nodes. map seen nodes.items ≡ nodes_of_all' (value_of_decl declaration.now)) }
-{
-    let mut parts = Vec::new(alloc);
-    if let Decl::Object(object) = declaration {
-        if object.is_last {
-            put_if_there(&mut parts, &object.parts.get().value)?;
-        }
-    }
-    nodes_of_all(alloc, parts)
-}
-
-/// Puts the truth tables that the value of a declaration uses at the end.
+/// Puts the truth tables that the value of a declaration uses at the end. Objects that are declared together share it, and it counts at
+/// the last.
 fn put_of_declaration<'a>(
     alloc: Global,
     names: &'a CellNames<'a>,
@@ -137,8 +148,12 @@ fn put_of_declaration<'a>(
         position: Position::Value(names, declaration.site),
         faults,
     };
-    let nodes = nodes_of_value(alloc, declaration.declaration)?;
-    put_truth_uses(&reader, &nodes, uses)
+    match declaration.declaration {
+        Decl::Object(object) if object.is_last => {
+            put_of_value(&reader, &object.parts.get().value, uses)
+        }
+        _ => Ok(()),
+    }
 }
 
 /// Puts the truth tables that the defaults of the generics and ports of a cell use at the end.
