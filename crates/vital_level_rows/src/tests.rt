@@ -1,23 +1,27 @@
 //! Cells beside their levels, the first clauses that they break, or the limits that they pass.
 
 mod clauses;
+mod default_words;
 mod expression_readings;
 mod forms;
 mod long_cells;
 mod package_constants;
 mod statement_readings;
 mod two_files;
+mod wire_delays;
 
 ghost use Rattle.std.specs.Prelude.{◌≡◌};
 ghost use Rattle.vital_grammar.specs.Grammar.{grammar};
 
 use self::clauses::CLAUSES;
+use self::default_words::DEFAULT_WORDS;
 use self::expression_readings::EXPRESSION_READINGS;
 use self::forms::{CELL, PACKAGE};
 use self::long_cells::LONG_CELLS;
 use self::package_constants::PACKAGE_CONSTANTS;
 use self::statement_readings::STATEMENT_READINGS;
 use self::two_files::TWO_FILES;
+use self::wire_delays::WIRE_DELAYS;
 use std::alloc::{AllocError, Global};
 use std::test::Fail;
 use vital_base::{Breach, List};
@@ -208,19 +212,47 @@ fn found(alloc: Global, rules: &Rules, texts: [&str; 2], file: u32) -> Result<Ex
     Ok(judged(alloc, &library, file, entity, Some(arch))?)
 }
 
+/// What comes of the cell of a row.
+fn found_for(alloc: Global, rules: &Rules, row: &Row) -> Result<Expected, UnitError>
+    requires { rules.now ≡ grammar }
+{
+    let cell = edited(alloc, WHOLE, row.edits)?;
+    found(alloc, rules, [row.package, cell.as_str()], 1)
+}
+
 #[test]
-fn each_cell_has_its_level(rt: HostRuntime) -> Result<(), Fail> {
+fn each_clause_is_broken_at_its_place(rt: HostRuntime) -> Result<(), Fail> {
     let rules = vhdl_rules(rt.alloc())?;
-    let tables: [&[Row]; 4] = [
-        &STATEMENT_READINGS,
-        &EXPRESSION_READINGS,
-        &CLAUSES,
-        &PACKAGE_CONSTANTS,
-    ];
+    let tables: [&[Row]; 2] = [&CLAUSES, &PACKAGE_CONSTANTS];
     for table in tables {
         for row in table {
-            let cell = edited(rt.alloc(), WHOLE, row.edits)?;
-            let found = found(rt.alloc(), &rules, [row.package, cell.as_str()], 1)?;
+            let found = found_for(rt.alloc(), &rules, row)?;
+            assert_eq!(rt; found, row.expected, "{:?}", row.edits);
+        }
+    }
+    Ok(())
+}
+
+#[test]
+fn each_cell_is_read_as_the_rules_say(rt: HostRuntime) -> Result<(), Fail> {
+    let rules = vhdl_rules(rt.alloc())?;
+    let tables: [&[Row]; 2] = [&STATEMENT_READINGS, &EXPRESSION_READINGS];
+    for table in tables {
+        for row in table {
+            let found = found_for(rt.alloc(), &rules, row)?;
+            assert_eq!(rt; found, row.expected, "{:?}", row.edits);
+        }
+    }
+    Ok(())
+}
+
+#[test]
+fn words_of_defaults_and_wire_delays_are_read(rt: HostRuntime) -> Result<(), Fail> {
+    let rules = vhdl_rules(rt.alloc())?;
+    let tables: [&[Row]; 2] = [&DEFAULT_WORDS, &WIRE_DELAYS];
+    for table in tables {
+        for row in table {
+            let found = found_for(rt.alloc(), &rules, row)?;
             assert_eq!(rt; found, row.expected, "{:?}", row.edits);
         }
     }
