@@ -1,0 +1,5 @@
+pub mod Given
+pub mod PathDelays
+pub mod TimingChecks
+pub mod StateTables
+pub mod Sections
