@@ -1,0 +1,23 @@
+-- What is answered where a cell is checked, and the delays that its timing generics begin with.
+use Rattle.std.specs.Prelude.{◌≡◌, ⊤, ◌⊎◌, List, map, Result, Ok, Err}
+use Rattle.vital_level1.specs.declared.level.CellError.TheVariants as verdicts
+use Rattle.vital_level1.specs.declared.level.CellLevel.TheVariants as level
+use Rattle.vital_level1.specs.Verdicts.{IsVerdict}
+use Rattle.vital_names.specs.Sites.{Cell}
+use Rattle.vital_timing.specs.declared.delay.Delay.{Delay}
+use Rattle.vital_checked.specs.declared.check.CheckError.{CheckError}
+use Rattle.vital_checked.specs.declared.check.CheckError.TheVariants.{Limit, Broken, NoMemory}
+use Rattle.vital_checked.specs.declared.checked.Checked.{Checked}
+use Rattle.vital_checked.specs.Typed.{typed}
+
+-- The typed tree of a cell where its level is Level 1; else its first limit, or its first breach where it passes none. Where there is no
+-- memory nothing is told of it.
+abbrev pub IsAnswer : Cell → Result Checked CheckError → Type 0
+IsAnswer cell (Ok checked) = IsVerdict cell (Ok level.Level1) × (checked ≡ typed cell)
+IsAnswer cell (Err (Limit limit)) = IsVerdict cell (Err (verdicts.Limit limit))
+IsAnswer cell (Err (Broken breach)) = IsVerdict cell (Ok (level.Level0 breach)) ⊎ IsVerdict cell (Ok (level.Neither breach))
+IsAnswer cell (Err NoMemory) = ⊤
+
+-- One delay for each timing generic: its default.
+abbrev pub default_values : Checked → List Delay
+default_values checked = map (λ g. g.default) checked.generics

@@ -1,0 +1,23 @@
+//! The delays that the timing generics of a cell begin with.
+
+ghost use Rattle.std.specs.Prelude.{◌≡◌, IfOk};
+ghost use Rattle.vital_checked.specs.Answers as spec;
+
+use crate::checked::Checked;
+use std::alloc::{AllocError, Global};
+use vital_base::List;
+use vital_timing::Delay;
+
+/// The delays of the timing generics of a cell, in their order, one for each.
+pub type Values = List<Delay>;
+
+/// The default of each timing generic: 0 for every change where it has none.
+pub fn default_values(alloc: Global, checked: &Checked) -> Result<Values, AllocError>
+    ensures { IfOk result (λ values. values ≡ spec.default_values checked.now) }
+{
+    let mut values = Vec::new(alloc);
+    for generic in checked.generics.as_slice() {
+        values.push(generic.default)?;
+    }
+    Ok(List::new(values))
+}
