@@ -1,0 +1,5 @@
+pub mod Targets
+pub mod ActualNames
+pub mod Paths
+pub mod Actuals
+pub mod ToldActuals

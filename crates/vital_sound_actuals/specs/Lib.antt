@@ -1,0 +1,3 @@
+pub mod ActualScopes
+pub mod ActualPositions
+pub mod SoundActuals
