@@ -1,0 +1,5 @@
+use Rattle.vital_sound_sections.proofs.StateTables.{state-table-sound}
+use Rattle.vital_sound_sections.proofs.laws.read_state_tables_fit.Goals as goal
+
+pub returns : goal.returns
+returns a s k b scope has go = state-table-sound s k b (record { scope = scope; tables = has }) go

@@ -1,0 +1,9 @@
+use Rattle.vital_sound_sections.proofs.Checks.{check-sound}
+use Rattle.vital_sound_sections.proofs.PathDelays.{path-delay-sound}
+use Rattle.vital_sound_sections.proofs.laws.read_statements_are_sound.Goals as goal
+
+pub returns-clause-checks : goal.returns-clause-checks
+returns-clause-checks a s k c scope has = check-sound s k c (record { scope = scope; tables = has })
+
+pub returns-clause-path_delays : goal.returns-clause-path_delays
+returns-clause-path_delays a s k d scope has = path-delay-sound s k d (record { scope = scope; tables = has })

@@ -1,0 +1,3 @@
+pub mod SoundStatements
+pub mod GivenTables
+pub mod SoundTables

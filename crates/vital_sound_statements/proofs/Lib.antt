@@ -1,0 +1,5 @@
+pub mod Assignments
+pub mod GivenActuals
+pub mod StateForms
+pub mod Misfits
+pub mod ToldStatements
