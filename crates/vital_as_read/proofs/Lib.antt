@@ -1,0 +1,11 @@
+pub mod Alike
+pub mod AsRead
+pub mod Concurrent
+pub mod Declarations
+pub mod Each
+pub mod Identifiers
+pub mod Places
+pub mod Processes
+pub mod Reading
+pub mod Tokens
+pub mod Units

@@ -1,0 +1,92 @@
+-- Units and cells as they are read from files.
+use Rattle.std.specs.Prelude.{◌≡◌, true, Bool, All, AllPairs, List, [], ◌∷◌, Option, Some, None, find}
+use Rattle.std.specs.Option.{option_map}
+use Rattle.vital_base.specs.Places.{is_before}
+use Rattle.vital_names.specs.Declarations.{Declared, body_of, declared_in, identifier_of, interface_of}
+use Rattle.vital_names.specs.Sites.{Cell}
+use Rattle.vital_names.specs.Viewpoints.{is_last}
+use Rattle.vital_nodes.specs.IdentifierNames.{IsIdentifierName}
+use Rattle.vital_nodes.specs.declared.decl.Decl.{Decl}
+use Rattle.vital_nodes.specs.declared.decl.Decl.TheVariants as decl
+use Rattle.vital_nodes.specs.declared.decl.Iface.{Iface}
+use Rattle.vital_nodes.specs.declared.decl.ObjectClass.{ObjectClass}
+use Rattle.vital_nodes.specs.declared.decl.ObjectParts.{ObjectParts}
+use Rattle.vital_nodes.specs.declared.stmt.Process.{Process}
+use Rattle.vital_nodes.specs.declared.unit.Arch.{Arch}
+use Rattle.vital_nodes.specs.declared.unit.Entity.{Entity}
+use Rattle.vital_nodes.specs.declared.unit.Unit.{Unit as Unit'}
+use Rattle.vital_nodes.specs.declared.unit.Unit.TheVariants as unit
+use Rattle.vital_uses.specs.Nodes.{declarations_of}
+use Rattle.vital_uses.specs.Statements.{processes}
+
+-- What is declared stands before something else that is.
+abbrev pub StandsBefore : Declared → Declared → Type 0
+StandsBefore d e = is_before (identifier_of d).place (identifier_of e).place ≡ true
+
+-- What is declared has an identifier for a name.
+abbrev pub IsNamed : Declared → Type 0
+IsNamed d = IsIdentifierName (identifier_of d).name
+
+-- ---- what is declared together
+
+-- What it has in common with those that are declared together with it, the last of them has too, and there is a last one.
+abbrev pub IsLike : {A C : Type 0} → (A → C) → A → Option A → Type 0
+IsLike common x last = option_map common last ≡ Some (common x)
+
+-- Each of a list is like the last of those that are declared together with it: the first from it on that is a last one.
+abbrev pub AreAlike : {A C : Type 0} → (A → Bool) → (A → C) → List A → Type 0
+AreAlike last common [] = Unit {0}
+AreAlike last common (x ∷ xs) = IsLike common x (find last (x ∷ xs)) × AreAlike last common xs
+
+-- What an object has in common with those that are declared together with it: its class, its subtype and its value.
+abbrev pub common_of : Decl → Option (ObjectClass × ObjectParts)
+common_of (decl.Attribute identifier type_mark) = None
+common_of (decl.Specification s) = None
+common_of (decl.Object o) = Some (o.«class», o.parts)
+common_of (decl.Alias a) = None
+common_of (decl.Component c) = None
+
+-- The objects among declarations.
+abbrev pub AreTogether : List Decl → Type 0
+AreTogether ds = AreAlike is_last common_of ds
+
+-- The same of generics or ports, which have all but their identifiers in common.
+abbrev pub AreInterfaceTogether : List Iface → Type 0
+AreInterfaceTogether is = AreAlike (λ i. i.is_last) (λ i. i.parts) is
+
+-- ---- units
+
+-- What an entity declares has identifiers for names and stands in the order of its text, and what is declared together is alike.
+pub record IsEntityAsRead (entity : Entity) : Type 0 where
+  pub named : All IsNamed (interface_of entity)
+  pub in_order : AllPairs StandsBefore (interface_of entity)
+  pub generics_together : AreInterfaceTogether entity.generics
+  pub ports_together : AreInterfaceTogether entity.ports
+
+-- The same of what a process declares, which stands behind what is declared around it.
+pub record IsProcessAsRead (outer : List Declared) (p : Process) : Type 0 where
+  pub named : All IsNamed (declared_in p.declarations)
+  pub in_order : AllPairs StandsBefore (declared_in p.declarations)
+  pub behind : All (λ d. All (StandsBefore d) (declared_in p.declarations)) outer
+  pub together : AreTogether p.declarations
+
+-- The same of what an architecture declares, if there is one, and of each of its processes.
+pub record IsArchAsRead (arch : Option Arch) : Type 0 where
+  pub named : All IsNamed (body_of arch)
+  pub in_order : AllPairs StandsBefore (body_of arch)
+  pub together : AreTogether (declarations_of arch)
+  pub processes : All (IsProcessAsRead (body_of arch)) (processes arch)
+
+-- The same of a unit. A package and a configuration are no part of a cell.
+abbrev pub IsUnitAsRead : Unit' → Type 0
+IsUnitAsRead (unit.Entity e) = IsEntityAsRead e
+IsUnitAsRead (unit.Arch a) = IsArchAsRead (Some a)
+IsUnitAsRead (unit.Pack p) = Unit {0}
+IsUnitAsRead (unit.Config c) = Unit {0}
+
+-- ---- cells
+
+-- The entity and the architecture of a cell are as read. They may stand in different files.
+pub record IsAsRead (cell : Cell) : Type 0 where
+  pub entity : IsEntityAsRead cell.entity
+  pub arch : IsArchAsRead cell.arch
