@@ -1,5 +1,6 @@
 pub mod Alike
 pub mod AsRead
+pub mod Cells
 pub mod Concurrent
 pub mod Declarations
 pub mod Each
