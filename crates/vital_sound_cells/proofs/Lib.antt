@@ -1,0 +1,4 @@
+pub mod Apart
+pub mod Driven
+pub mod Names
+pub mod Wires
