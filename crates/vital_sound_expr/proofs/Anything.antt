@@ -1,5 +1,5 @@
 -- A scope that has everything: in it what needs no scope is shown.
-use Rattle.std.proofs.Common.{true, List, ℕ, Option, Some, None, refl}
+use Rattle.std.proofs.Common.{◌≡◌, true, List, ℕ, Option, Some, None, refl}
 use Rattle.std.specs.Prelude.{IfSome}
 use Rattle.std.specs.Option.{option_and_then}
 use Rattle.vital_declarations.specs.Operands.{AliasTarget, OperandKind, Signal, Port, VariableOf, ConstantOf, Generic, AliasOf, NoOperand, VariableType, Level, X01, VectorOf, GlitchData, TimingData, PeriodData}
@@ -12,8 +12,9 @@ use Rattle.vital_operands.specs.declared.tree.VectorExpr.{VectorExpr}
 use Rattle.vital_operands.specs.Calls.{TableActuals, table_actuals, table_items}
 use Rattle.vital_operands.specs.Positions.{Position, Standing, Operand, Constant, Word, Nothing, standing}
 use Rattle.vital_expr.specs.Readings.{Context, vector_of}
+use Rattle.vital_expr.specs.Vectors.{length_of}
 use Rattle.vital_sound_expr.specs.Calls.{HasActuals, HasTable, HasTableAt, HasTables, table_given}
-use Rattle.vital_sound_expr.specs.Positions.{HasConstant, HasOperand, HasStanding, HasTarget, HasVariable, IsScopeOf}
+use Rattle.vital_sound_expr.specs.Positions.{HasConstant, HasNameAt, HasOperand, HasStanding, HasTarget, HasVariable, IsScopeOf}
 use Rattle.vital_sound_expr.specs.Scopes.{Scope}
 
 abbrev pub anything : Scope
@@ -62,26 +63,40 @@ any-standing p name (Constant n o) = any-constant (constant.Package n) (type_of 
 any-standing p name (Word w) = tt
 any-standing p name Nothing = tt
 
-pub anything-seen : (p : Position) → IsScopeOf anything p
-anything-seen p = λ i. any-standing p i.name (standing p i)
+any-name-at : (p : Position) (v : Node) → HasNameAt anything p v
+any-name-at p (Declaration d) = tt
+any-name-at p (Interface i) = tt
+any-name-at p (Concurrent k) = tt
+any-name-at p (Sequential k) = tt
+any-name-at p (Expression e) = tt
+any-name-at p (Item i) = tt
+any-name-at p (Name r) = any-standing p r.identifier.name (standing p r.identifier)
 
-any-table : (t : Option (ConstantName × ℕ)) (v : Option VectorExpr) → HasTable anything t v
-any-table None v = tt
-any-table (Some t) None = tt
-any-table (Some t) (Some v) = λ results there are. refl
+pub anything-seen : (p : Position) (v : Node) → IsScopeOf anything p v
+anything-seen p v = λ k d inside. any-name-at p _
 
-any-actuals : (c : Context) (o : Option TableActuals) → IfSome o (HasActuals anything c)
-any-actuals c None = tt
-any-actuals c (Some a) = any-table (table_given c.position a) (vector_of c None a.inputs).tree
+-- ---- scopes that have all tables
 
-any-table-at : (c : Context) (v : Node) → HasTableAt anything c v
-any-table-at c (Declaration d) = tt
-any-table-at c (Interface i) = tt
-any-table-at c (Concurrent k) = tt
-any-table-at c (Sequential k) = tt
-any-table-at c (Expression e) = tt
-any-table-at c (Item i) = tt
-any-table-at c (Name r) = any-actuals c (option_and_then table_actuals (table_items c.position r))
+abbrev pub HasAllTables : Scope → Type 0
+HasAllTables s = (name : ConstantName) (inputs results : ℕ) → s.has_table name inputs results ≡ true
 
-pub any-tables : (c : Context) (v : Node) → HasTables anything c v
-any-tables c v = λ k d inside. any-table-at c _
+any-table : (s : Scope) (t : Option (ConstantName × ℕ)) (v : Option VectorExpr) → HasAllTables s → HasTable s t v
+any-table s None v has = tt
+any-table s (Some t) None has = tt
+any-table s (Some t) (Some v) has = λ results there are. has t.0 (length_of v) results
+
+any-actuals : (s : Scope) (c : Context) (o : Option TableActuals) → HasAllTables s → IfSome o (HasActuals s c)
+any-actuals s c None has = tt
+any-actuals s c (Some a) has = any-table s (table_given c.position a) (vector_of c None a.inputs).tree has
+
+any-table-at : (s : Scope) (c : Context) (v : Node) → HasAllTables s → HasTableAt s c v
+any-table-at s c (Declaration d) has = tt
+any-table-at s c (Interface i) has = tt
+any-table-at s c (Concurrent k) has = tt
+any-table-at s c (Sequential k) has = tt
+any-table-at s c (Expression e) has = tt
+any-table-at s c (Item i) has = tt
+any-table-at s c (Name r) has = any-actuals s c (option_and_then table_actuals (table_items c.position r)) has
+
+pub any-tables : (s : Scope) (c : Context) (v : Node) → HasAllTables s → HasTables s c v
+any-tables s c v has = λ k d inside. any-table-at s c _ has

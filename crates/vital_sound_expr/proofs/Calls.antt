@@ -35,7 +35,7 @@ use Rattle.vital_expr.specs.Readings.{Context, reading_step, worth}
 use Rattle.vital_expr.specs.Steps.{reading_if_given}
 use Rattle.vital_expr.specs.Vectors.{if_vector_fits, length_of}
 use Rattle.vital_sound_expr.specs.Calls.{HasActuals, HasTable, HasTableOf}
-use Rattle.vital_sound_expr.specs.Positions.{IsScopeOf}
+use Rattle.vital_sound_expr.specs.Positions.{HasIdentifier}
 use Rattle.vital_sound_expr.specs.Scopes.{Scope}
 use Rattle.vital_sound_expr.proofs.Names.{element-sound, plain-sound}
 use Rattle.vital_sound_expr.proofs.Outcomes.{IfTyped, EachOf, if-mapped, if-or, if-test, if-then}
@@ -130,20 +130,20 @@ count-law s c n is are =
     let count : (length is == n) ≡ true = first-true (length is == n) (are_positional is) are in
     length-map (map (worth c) (items is)) (λ r. r.level) ∙ length-map (items is) (worth c) ∙ length-map is (λ i. Item i) ∙ number-is (length is) n count
 
-level-function : (s : Scope) (c : Context) (own : List Place) (r : Reference) (is : List Item') (f : Option Function) → IsScopeOf s c.position → function_named c.position r.identifier ≡ f → only_items r.suffixes ≡ Some is → HasTableOf s c r → SoundReadings s (map (worth c) (items is)) → IfTyped (SoundLevel s) (level_of_function own c.position r is (map (worth c) (items is)) f)
-level-function s c own r is (Some (function.Primitive p)) scope means behind has sound =
+level-function : (s : Scope) (c : Context) (own : List Place) (r : Reference) (is : List Item') (f : Option Function) → HasIdentifier s c.position r.identifier → function_named c.position r.identifier ≡ f → only_items r.suffixes ≡ Some is → HasTableOf s c r → SoundReadings s (map (worth c) (items is)) → IfTyped (SoundLevel s) (level_of_function own c.position r is (map (worth c) (items is)) f)
+level-function s c own r is (Some (function.Primitive p)) named means behind has sound =
     if-test (SoundLevel s) (are_values (input_count p) is) (map_typed (λ ts. level.Primitive p ts) (levels_of (map (worth c) (items is)))) (broken own)
     (λ h. if-mapped (EachOf (SoundLevel s) (map (λ r. r.level) (map (worth c) (items is)))) (SoundLevel s) (λ ts. level.Primitive p ts) (levels_of (map (worth c) (items is))) (levels-sound s (map (worth c) (items is)) sound)
     (λ ts hold. sound-primitive s p ts (hold.1 ∙ count-law s c (input_count p) is h) hold.0))
     (λ h. tt)
-level-function s c own r is (Some (function.Conversion k)) scope means behind has sound =
+level-function s c own r is (Some (function.Conversion k)) named means behind has sound =
     if-test (SoundLevel s) (are_values 1 is) (map_typed (λ t. level.Conversion k t) (first_of (map (worth c) (items is))).level) (broken own)
     (λ h. if-mapped (SoundLevel s) (SoundLevel s) (λ t. level.Conversion k t) (first_of (map (worth c) (items is))).level (first-sound s (map (worth c) (items is)) sound).level (sound-conversion s k))
     (λ h. tt)
-level-function s c own r is (Some function.TruthTable) scope means behind has sound =
+level-function s c own r is (Some function.TruthTable) named means behind has sound =
     if-then (SoundCall s) (SoundLevel s) (one_result own) (truth_table_call own c.position is (map (worth c) (items is)))
     (table-call-sound s c own is (table-of s c r is means behind has) sound) (result-sound s own)
-level-function s c own r is None scope means behind has sound = if-or (SoundLevel s) own (element_of c.position r) (element-sound s c.position r scope)
+level-function s c own r is None named means behind has sound = if-or (SoundLevel s) own (element_of c.position r) (element-sound s c.position r named)
 
 vector-function : (s : Scope) (c : Context) (own : List Place) (asked : Option ℕ) (r : Reference) (is : List Item') (f : Option Function) → function_named c.position r.identifier ≡ f → only_items r.suffixes ≡ Some is → HasTableOf s c r → SoundReadings s (map (worth c) (items is)) → IfTyped (SoundVector s asked) (vector_of_function own c.position asked is (map (worth c) (items is)) f)
 vector-function s c own asked r is (Some (function.Primitive p)) means behind has sound = tt
@@ -162,9 +162,9 @@ behind_reading own c r o rs = record (broken_reading own) {
   vector = λ asked. vector_of_items own c.position asked r o rs;
 }
 
-items-sound : (s : Scope) (c : Context) (own : List Place) (r : Reference) (is : List Item') → IsScopeOf s c.position → only_items r.suffixes ≡ Some is → HasTableOf s c r → SoundReadings s (map (worth c) (items is)) → SoundReading s (behind_reading own c r (Some is) (map (worth c) (items is)))
-items-sound s c own r is scope behind has sound = record {
-  level = level-function s c own r is (function_named c.position r.identifier) scope refl behind has sound;
+items-sound : (s : Scope) (c : Context) (own : List Place) (r : Reference) (is : List Item') → HasIdentifier s c.position r.identifier → only_items r.suffixes ≡ Some is → HasTableOf s c r → SoundReadings s (map (worth c) (items is)) → SoundReading s (behind_reading own c r (Some is) (map (worth c) (items is)))
+items-sound s c own r is named behind has sound = record {
+  level = level-function s c own r is (function_named c.position r.identifier) named refl behind has sound;
   vector = λ asked. vector-function s c own asked r is (function_named c.position r.identifier) refl behind has sound;
   boolean = tt;
   time = tt;
@@ -175,16 +175,16 @@ items-sound s c own r is scope behind has sound = record {
 no-items : (s : Scope) (c : Context) (own : List Place) (r : Reference) (rs : List Reading) → SoundReading s (behind_reading own c r None rs)
 no-items s c own r rs = record { level = tt; vector = λ asked. tt; boolean = tt; time = tt; delay = λ d. tt; literal = tt }
 
-suffix-sound : (s : Scope) (c : Context) (own : List Place) (r : Reference) (l : SuffixLayer) → IsScopeOf s c.position → only_items r.suffixes ≡ items_in l → HasTableOf s c r → SoundReadings s (map (worth c) (parts_in_suffix l ++ [])) → SoundReading s (behind_reading own c r (items_in l) (map (worth c) (parts_in_suffix l ++ [])))
-suffix-sound s c own r (Suffix-F.Selected identifier) scope behind has sound = no-items s c own r []
-suffix-sound s c own r (Suffix-F.All place) scope behind has sound = no-items s c own r []
-suffix-sound s c own r (Suffix-F.Attribute identifier) scope behind has sound = no-items s c own r []
-suffix-sound s c own r (Suffix-F.Qualified is) scope behind has sound = no-items s c own r (map (worth c) (items is ++ []))
-suffix-sound s c own r (Suffix-F.Items is) scope behind has sound =
+suffix-sound : (s : Scope) (c : Context) (own : List Place) (r : Reference) (l : SuffixLayer) → HasIdentifier s c.position r.identifier → only_items r.suffixes ≡ items_in l → HasTableOf s c r → SoundReadings s (map (worth c) (parts_in_suffix l ++ [])) → SoundReading s (behind_reading own c r (items_in l) (map (worth c) (parts_in_suffix l ++ [])))
+suffix-sound s c own r (Suffix-F.Selected identifier) named behind has sound = no-items s c own r []
+suffix-sound s c own r (Suffix-F.All place) named behind has sound = no-items s c own r []
+suffix-sound s c own r (Suffix-F.Attribute identifier) named behind has sound = no-items s c own r []
+suffix-sound s c own r (Suffix-F.Qualified is) named behind has sound = no-items s c own r (map (worth c) (items is ++ []))
+suffix-sound s c own r (Suffix-F.Items is) named behind has sound =
     subst (λ (vs : List Node). SoundReading s (behind_reading own c r (Some is) (map (worth c) vs))) (sym (append-nil (items is)))
-    (items-sound s c own r is scope behind has (subst (λ (vs : List Node). SoundReadings s (map (worth c) vs)) (append-nil (items is)) sound))
+    (items-sound s c own r is named behind has (subst (λ (vs : List Node). SoundReadings s (map (worth c) vs)) (append-nil (items is)) sound))
 
-pub name-sound : (s : Scope) (c : Context) (own : List Place) (r : Reference) (ss : List Suffix) → IsScopeOf s c.position → r.suffixes ≡ ss → HasTableOf s c r → SoundReadings s (map (worth c) (flat_map parts_of_suffix ss)) → SoundReading s (name_in own c.position r (map (worth c) (flat_map parts_of_suffix ss)) ss)
-name-sound s c own r [] scope are has sound = plain-sound s own c.position r.identifier scope
-name-sound s c own r (t ∷ []) scope are has sound = suffix-sound s c own r (out-Suffix t) scope (ap only_items are) has sound
-name-sound s c own r (t ∷ u ∷ ss) scope are has sound = no-items s c own r (map (worth c) (flat_map parts_of_suffix (t ∷ u ∷ ss)))
+pub name-sound : (s : Scope) (c : Context) (own : List Place) (r : Reference) (ss : List Suffix) → HasIdentifier s c.position r.identifier → r.suffixes ≡ ss → HasTableOf s c r → SoundReadings s (map (worth c) (flat_map parts_of_suffix ss)) → SoundReading s (name_in own c.position r (map (worth c) (flat_map parts_of_suffix ss)) ss)
+name-sound s c own r [] named are has sound = plain-sound s own c.position r.identifier named
+name-sound s c own r (t ∷ []) named are has sound = suffix-sound s c own r (out-Suffix t) named (ap only_items are) has sound
+name-sound s c own r (t ∷ u ∷ ss) named are has sound = no-items s c own r (map (worth c) (flat_map parts_of_suffix (t ∷ u ∷ ss)))

@@ -1,4 +1,4 @@
--- What an identifier alone is, and an element, is sound where all that names stand for is in a scope.
+-- What an identifier alone is, and an element, is sound where what it stands for is in a scope.
 use Rattle.std.proofs.Common.{◌≡◌, ℕ, ◌-◌, ◌<◌, Bool, true, false, List, Option, Some, None, refl, arith}
 use Rattle.std.specs.Prelude.{◌&&◌, cond, nat_le, IfSome}
 use Rattle.std.specs.Option.{option_and_then, option_map}
@@ -28,7 +28,7 @@ use Rattle.vital_operands.specs.Positions.{Position, Standing, Operand, Constant
 use Rattle.vital_timing.specs.declared.delay.DelayType.{DelayType}
 use Rattle.vital_timing.specs.declared.delay.DelayType.TheVariants.{One, Two, Six}
 use Rattle.vital_expr.specs.Names.{element_of, plain_reading, whole_vector}
-use Rattle.vital_sound_expr.specs.Positions.{HasOperand, HasStanding, HasTarget, HasVariable, IsScopeOf}
+use Rattle.vital_sound_expr.specs.Positions.{HasIdentifier, HasOperand, HasStanding, HasTarget, HasVariable}
 use Rattle.vital_sound_expr.specs.Scopes.{Scope}
 use Rattle.vital_sound_expr.proofs.Outcomes.{if-or}
 use Rattle.vital_sound_expr.proofs.Readings.{SoundDelay, SoundReading, SoundTime, SoundVector}
@@ -117,16 +117,16 @@ standing-element s p name (Constant n o) index has h = tt
 standing-element s p name (Word w) index has h = tt
 standing-element s p name Nothing index has h = tt
 
-element-index : (s : Scope) (p : Position) (i : Identifier) (index : List ℕ) → HasStanding s p i.name (standing p i) → IfSome (element_named p i index) (SoundLevel s)
+element-index : (s : Scope) (p : Position) (i : Identifier) (index : List ℕ) → HasIdentifier s p i → IfSome (element_named p i index) (SoundLevel s)
 element-index s p i index has = if-there (SoundLevel s) (changes p) (option_map (λ n. level.Element i.name n) (offset_in_standing (standing p i) index)) (standing-element s p i.name (standing p i) index has)
 
-element-indexed : (s : Scope) (p : Position) (i : Identifier) (o : Option (List ℕ)) → HasStanding s p i.name (standing p i) → IfSome (option_and_then (element_named p i) o) (SoundLevel s)
+element-indexed : (s : Scope) (p : Position) (i : Identifier) (o : Option (List ℕ)) → HasIdentifier s p i → IfSome (option_and_then (element_named p i) o) (SoundLevel s)
 element-indexed s p i None has = tt
 element-indexed s p i (Some index) has = element-index s p i index has
 
 -- The element of a vector variable that a name is.
-pub element-sound : (s : Scope) (p : Position) (r : Reference) → IsScopeOf s p → IfSome (element_of p r) (SoundLevel s)
-element-sound s p r scope = element-indexed s p r.identifier (literal_index r.suffixes) (scope r.identifier)
+pub element-sound : (s : Scope) (p : Position) (r : Reference) → HasIdentifier s p r.identifier → IfSome (element_of p r) (SoundLevel s)
+element-sound s p r has = element-indexed s p r.identifier (literal_index r.suffixes) has
 
 variable-whole : (s : Scope) (name : List ℕ) (t : VariableType) → HasVariable s name t → IfSome (option_map (λ n. vector.Variable name n) (length_of_standing (Operand (VariableOf t)))) (HoldsVector s)
 variable-whole s name Level has = tt
@@ -148,7 +148,7 @@ standing-whole s p name (Constant n o) has h = tt
 standing-whole s p name (Word w) has h = tt
 standing-whole s p name Nothing has h = tt
 
-whole-named : (s : Scope) (p : Position) (i : Identifier) → HasStanding s p i.name (standing p i) → IfSome (vector_named p i) (HoldsVector s)
+whole-named : (s : Scope) (p : Position) (i : Identifier) → HasIdentifier s p i → IfSome (vector_named p i) (HoldsVector s)
 whole-named s p i has = if-there (HoldsVector s) (changes p) (option_map (λ n. vector.Variable i.name n) (length_of_standing (standing p i))) (standing-whole s p i.name (standing p i) has)
 
 whole-fitting : (s : Scope) (asked : Option ℕ) (o : Option VectorExpr) → IfSome o (HoldsVector s) → IfSome (whole_vector asked o) (SoundVector s asked)
@@ -233,12 +233,12 @@ standing-delay s p d name Nothing has = tt
 
 -- ---- identifiers alone
 
-pub plain-sound : (s : Scope) (own : List Place) (p : Position) (i : Identifier) → IsScopeOf s p → SoundReading s (plain_reading own p i)
-plain-sound s own p i scope = record {
-  level = if-or (SoundLevel s) own (level_named p i) (standing-level s p i.name (standing p i) (scope i));
-  vector = λ asked. if-or (SoundVector s asked) own (whole_vector asked (vector_named p i)) (whole-fitting s asked (vector_named p i) (whole-named s p i (scope i)));
+pub plain-sound : (s : Scope) (own : List Place) (p : Position) (i : Identifier) → HasIdentifier s p i → SoundReading s (plain_reading own p i)
+plain-sound s own p i has = record {
+  level = if-or (SoundLevel s) own (level_named p i) (standing-level s p i.name (standing p i) has);
+  vector = λ asked. if-or (SoundVector s asked) own (whole_vector asked (vector_named p i)) (whole-fitting s asked (vector_named p i) (whole-named s p i has));
   boolean = if-or (SoundBoolean s) own (boolean_named p i) (standing-boolean s p i.name (standing p i));
-  time = if-or (SoundTime s) own (time_named p i) (standing-time s p i.name (standing p i) (scope i));
-  delay = λ d. if-or (SoundDelay s d) own (delay_named p d i) (standing-delay s p d i.name (standing p i) (scope i));
+  time = if-or (SoundTime s) own (time_named p i) (standing-time s p i.name (standing p i) has);
+  delay = λ d. if-or (SoundDelay s d) own (delay_named p d i) (standing-delay s p d i.name (standing p i) has);
   literal = tt;
 }

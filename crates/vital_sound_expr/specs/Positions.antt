@@ -1,10 +1,12 @@
--- When all that names stand for at a position is in a scope.
-use Rattle.std.specs.Prelude.{◌≡◌, ℕ, ◌<◌, true, List, ⊤}
+-- When what the names in a node stand for at a position is in a scope.
+use Rattle.std.specs.Prelude.{◌≡◌, ℕ, ◌<◌, true, List, ⊤, All}
 use Rattle.vital_declarations.specs.Numbers.{length_of}
 use Rattle.vital_declarations.specs.Operands.{AliasTarget, OperandKind, Signal, Port, VariableOf, ConstantOf, Generic, AliasOf, NoOperand, VariableType, Level, X01, VectorOf, is_level}
 use Rattle.vital_declarations.specs.Operands as target
 use Rattle.vital_declarations.specs.Types.{DeclaredType, type_of}
 use Rattle.vital_nodes.specs.declared.identifier.Identifier.{Identifier}
+use Rattle.vital_nodes.specs.Nodes.{Node, Declaration, Interface, Concurrent, Sequential, Expression, Item, Name}
+use Rattle.vital_nodes.specs.Walk.{nodes_of}
 use Rattle.vital_operands.specs.declared.tree.ConstantName.{ConstantName}
 use Rattle.vital_operands.specs.declared.tree.ConstantName.TheVariants as constant
 use Rattle.vital_operands.specs.Named.{cell_constant, is_delay, is_read_mode, is_time}
@@ -54,6 +56,20 @@ HasStanding s p name (Constant n o) = HasConstant s (constant.Package n) (type_o
 HasStanding s p name (Word w) = ⊤
 HasStanding s p name Nothing = ⊤
 
--- Each identifier stands for something in the scope.
-abbrev pub IsScopeOf : Scope → Position → Type 0
-IsScopeOf s p = (i : Identifier) → HasStanding s p i.name (standing p i)
+-- What an identifier stands for is in the scope.
+abbrev pub HasIdentifier : Scope → Position → Identifier → Type 0
+HasIdentifier s p i = HasStanding s p i.name (standing p i)
+
+-- What the identifier of a name stands for.
+abbrev pub HasNameAt : Scope → Position → Node → Type 0
+HasNameAt s p (Declaration d) = ⊤
+HasNameAt s p (Interface i) = ⊤
+HasNameAt s p (Concurrent k) = ⊤
+HasNameAt s p (Sequential k) = ⊤
+HasNameAt s p (Expression e) = ⊤
+HasNameAt s p (Item i) = ⊤
+HasNameAt s p (Name r) = HasIdentifier s p r.identifier
+
+-- What each name in a node stands for.
+abbrev pub IsScopeOf : Scope → Position → Node → Type 0
+IsScopeOf s p v = All (HasNameAt s p) (nodes_of v)

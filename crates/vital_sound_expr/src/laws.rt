@@ -12,18 +12,18 @@ ghost use Rattle.vital_sound_expr.specs.Told.{IsTold};
 ghost use Rattle.vital_sound_expr.specs.Trees.{is_sound_boolean, is_sound_delay, is_sound_level, is_sound_time, is_sound_vector};
 ghost use Rattle.vital_timing.specs.declared.delay.DelayType.{DelayType};
 
-/// Where all that names stand for at a position is in a scope, and so are the tables of the calls in an expression, each tree that
-/// the expression is read as is sound in that scope, whichever type is asked: a law, called for its clauses.
+/// Where what the names in an expression stand for is in a scope, and so are the tables of the calls in it, each tree that the
+/// expression is read as is sound in that scope, whichever type is asked: a law, called for its clauses.
 pub fn read_trees_are_sound()
-    ensures levels { (s : Scope) (c : Context) (e : Expr) → IsScopeOf s c.position → HasTables s c (Expression e)
+    ensures levels { (s : Scope) (c : Context) (e : Expr) → IsScopeOf s c.position (Expression e) → HasTables s c (Expression e)
         → IfSome (level_of c e).tree (λ t. is_sound_level s t ≡ true) }
-    ensures vectors { (s : Scope) (c : Context) (e : Expr) (asked : Option ℕ) → IsScopeOf s c.position → HasTables s c (Expression e)
+    ensures vectors { (s : Scope) (c : Context) (e : Expr) (asked : Option ℕ) → IsScopeOf s c.position (Expression e) → HasTables s c (Expression e)
         → IfSome (vector_of c asked e).tree (λ v. is_sound_vector s (length_of v) v ≡ true) }
-    ensures booleans { (s : Scope) (c : Context) (e : Expr) → IsScopeOf s c.position → HasTables s c (Expression e)
+    ensures booleans { (s : Scope) (c : Context) (e : Expr) → IsScopeOf s c.position (Expression e) → HasTables s c (Expression e)
         → IfSome (boolean_of c e).tree (λ t. is_sound_boolean s t ≡ true) }
-    ensures times { (s : Scope) (c : Context) (e : Expr) → IsScopeOf s c.position → HasTables s c (Expression e)
+    ensures times { (s : Scope) (c : Context) (e : Expr) → IsScopeOf s c.position (Expression e) → HasTables s c (Expression e)
         → IfSome (time_of c e).tree (λ t. is_sound_time s t ≡ true) }
-    ensures delays { (s : Scope) (c : Context) (d : DelayType) (e : Expr) → IsScopeOf s c.position → HasTables s c (Expression e)
+    ensures delays { (s : Scope) (c : Context) (d : DelayType) (e : Expr) → IsScopeOf s c.position (Expression e) → HasTables s c (Expression e)
         → IfSome (delay_of c d e).tree (λ t. is_sound_delay s d t ≡ true) }
 {}
 

@@ -1,4 +1,4 @@
-use Rattle.std.proofs.Common.{Some, sym}
+use Rattle.std.proofs.Common.{Some, refl, sym}
 use Rattle.std.proofs.lemmas.Option.{IfSome_then}
 use Rattle.vital_nodes.specs.Nodes.{Expression}
 use Rattle.vital_expr.specs.Readings.{vector_of}
@@ -10,5 +10,5 @@ use Rattle.vital_sound_expr.proofs.laws.read_vectors_fit.Goals as goal
 
 pub returns : goal.returns
 returns a c n e =
-    IfSome_then (vector_of c (Some n) e).tree ((node-sound anything c (Expression e) (anything-seen c.position) (any-tables c (Expression e))).vector (Some n))
+    IfSome_then (vector_of c (Some n) e).tree ((node-sound anything c (Expression e) (anything-seen c.position (Expression e)) (any-tables anything c (Expression e) (λ name inputs results. refl))).vector (Some n))
     (λ v holds. sym (number-is n (length_of v) holds.fits))
