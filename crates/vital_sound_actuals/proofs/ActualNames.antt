@@ -13,7 +13,7 @@ use Rattle.vital_operands.specs.Named.{is_delay, is_read_mode, same_type}
 use Rattle.vital_operands.specs.Positions.{Position, InStatement, InValue, InInterface, InPackage, Standing, Operand, Constant, Word, Nothing, changes, has_generics, standing}
 use Rattle.vital_timing.specs.declared.delay.DelayType.{DelayType}
 use Rattle.vital_timing.specs.declared.delay.DelayType.TheVariants.{One, Two, Six}
-use Rattle.vital_sound_expr.specs.Positions.{HasOperand, HasStanding}
+use Rattle.vital_sound_expr.specs.Positions.{HasIdentifier, HasOperand, HasStanding}
 use Rattle.vital_sound_expr.specs.Scopes.{Scope}
 use Rattle.vital_sound_expr.proofs.Tests.{first-true, second-true}
 use Rattle.vital_sound_actuals.specs.ActualPositions.{HasNamed, IsActualScopeOf}
@@ -174,7 +174,7 @@ if-name : (s : ActualScope) (f : ActualForm) (b : Bool) (name : List ℕ) → (b
 if-name s f true name holds = holds refl
 if-name s f false name holds = tt
 
-pub name-sound : (s : ActualScope) (p : Position) (f : ActualForm) (i : Identifier) → IsActualScopeOf s p → IfSome (name_for p f i) (λ n. is_sound_name s f n ≡ true)
-name-sound s p f i scope =
+pub name-sound : (s : ActualScope) (p : Position) (f : ActualForm) (i : Identifier) → IsActualScopeOf s p → HasIdentifier s.names p i → IfSome (name_for p f i) (λ n. is_sound_name s f n ≡ true)
+name-sound s p f i scope known =
     if-name s f (fits f (operand_named p i)) i.name
-    (λ h. kind-sound s p f i.name (operand_named p i) scope.in_statement (standing-operand s p i.name (standing p i) (scope.names i)) (scope.named i) h)
+    (λ h. kind-sound s p f i.name (operand_named p i) scope.in_statement (standing-operand s p i.name (standing p i) known) (scope.named i) h)

@@ -1,5 +1,6 @@
 pub mod Targets
 pub mod ActualNames
+pub mod Bare
 pub mod Paths
 pub mod Actuals
 pub mod ToldActuals

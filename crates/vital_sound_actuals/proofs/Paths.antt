@@ -1,4 +1,4 @@
--- Paths are sound where all that names stand for is in a scope, and so are the tables of the calls in them.
+-- Paths are sound where what the names in them stand for is in a scope, and so are the tables of the calls in them.
 use Rattle.std.proofs.Common.{◌≡◌, Bool, true, false, List, [], ◌∷◌, ℕ, map, Option, Some, None}
 use Rattle.std.specs.Prelude.{◌&&◌, cond, IfSome}
 use Rattle.std.specs.List.{AllByRecursion}
@@ -13,7 +13,7 @@ use Rattle.vital_nodes.specs.declared.expr.Expr.{Expr}
 use Rattle.vital_nodes.specs.declared.expr.Item.{Item as Item'}
 use Rattle.vital_nodes.specs.declared.expr.Reference.{Reference}
 use Rattle.vital_nodes.specs.Layers.{ActualLayer, ChoiceLayer, ExprLayer, ItemLayer}
-use Rattle.vital_nodes.specs.Nodes.{Expression, Item, items, parts_of, parts_in_actual, parts_in_choice, parts_in_expr, parts_in_item}
+use Rattle.vital_nodes.specs.Nodes.{Expression, Item, Name, items, parts_of, parts_in_actual, parts_in_choice, parts_in_expr, parts_in_item}
 use Rattle.vital_operands.specs.declared.tree.BooleanExpr.{BooleanExpr}
 use Rattle.vital_operands.specs.declared.tree.DelayExpr.{DelayExpr}
 use Rattle.vital_operands.specs.Items.{are_positional}
@@ -22,8 +22,9 @@ use Rattle.vital_timing.specs.declared.delay.DelayType.{DelayType}
 use Rattle.vital_walk.specs.Items.{actual, actual_in, items_in_expr, listed_items, positional_in, positional_value, value_in_actual, value_in_choice}
 use Rattle.vital_expr.specs.Outcomes.{all_typed, both, broken}
 use Rattle.vital_expr.specs.Readings.{Context, boolean_of, breach, delay_of}
+use Rattle.vital_sound_expr.specs.Positions.{HasIdentifier}
 use Rattle.vital_sound_expr.specs.Trees.{is_sound_boolean, is_sound_delay}
-use Rattle.vital_sound_expr.proofs.Nodes.{EachTable, node-sound-by, tables-of-parts}
+use Rattle.vital_sound_expr.proofs.Nodes.{IsKnown, known-here, known-parts, known-sound}
 use Rattle.vital_sound_expr.proofs.Outcomes.{IfTyped, if-all, if-and-then, if-both, if-or, if-test}
 use Rattle.vital_sound_expr.proofs.Tests.{both-true}
 use Rattle.vital_sound_expr.specs.Scopes.{Scope}
@@ -32,63 +33,63 @@ use Rattle.vital_sound_actuals.specs.ActualScopes.{ActualScope}
 use Rattle.vital_sound_actuals.specs.SoundActuals.{is_sound_name, is_sound_path}
 use Rattle.vital_sound_actuals.proofs.ActualNames.{name-sound}
 
--- ---- the tables of the calls in what items hold
+-- ---- what items hold
 
--- The tables of the calls in an expression.
+-- What names and tables in an expression stand for.
 abbrev pub HasWithin : Scope → Context → Expr → Type 0
-HasWithin s c e = EachTable s c (Expression e)
+HasWithin s c e = IsKnown s c (Expression e)
 
-choice-value : (s : Scope) (c : Context) (l : ChoiceLayer) → AllByRecursion (EachTable s c) (parts_in_choice l) → IfSome (value_in_choice l) (HasWithin s c)
+choice-value : (s : Scope) (c : Context) (l : ChoiceLayer) → AllByRecursion (IsKnown s c) (parts_in_choice l) → IfSome (value_in_choice l) (HasWithin s c)
 choice-value s c (Choice-F.Choice::Value e) has = has.0
 choice-value s c (Choice-F.Range r) has = tt
 
-actual-value : (s : Scope) (c : Context) (l : ActualLayer) → AllByRecursion (EachTable s c) (parts_in_actual l) → IfSome (value_in_actual l) (HasWithin s c)
+actual-value : (s : Scope) (c : Context) (l : ActualLayer) → AllByRecursion (IsKnown s c) (parts_in_actual l) → IfSome (value_in_actual l) (HasWithin s c)
 actual-value s c (Actual-F.Actual::Value e) has = has.0
 actual-value s c (Actual-F.Actual::Open place) has = tt
 
-given-value : (s : Scope) (c : Context) (l : ItemLayer) → AllByRecursion (EachTable s c) (parts_in_item l) → IfSome (actual_in l) (HasWithin s c)
+given-value : (s : Scope) (c : Context) (l : ItemLayer) → AllByRecursion (IsKnown s c) (parts_in_item l) → IfSome (actual_in l) (HasWithin s c)
 given-value s c (Item-F.Others place e) has = has.0
 given-value s c (Item-F.Item::Open place) has = tt
 given-value s c (Item-F.Positional choice) has = choice-value s c (out-Choice choice) has
 given-value s c (Item-F.Named a) has = actual-value s c (out-Actual a.actual) has
 
-position-value : (s : Scope) (c : Context) (l : ItemLayer) → AllByRecursion (EachTable s c) (parts_in_item l) → IfSome (positional_in l) (HasWithin s c)
+position-value : (s : Scope) (c : Context) (l : ItemLayer) → AllByRecursion (IsKnown s c) (parts_in_item l) → IfSome (positional_in l) (HasWithin s c)
 position-value s c (Item-F.Others place e) has = tt
 position-value s c (Item-F.Item::Open place) has = tt
 position-value s c (Item-F.Positional choice) has = choice-value s c (out-Choice choice) has
 position-value s c (Item-F.Named a) has = tt
 
-behind-value : (s : Scope) (c : Context) (l : ItemLayer) → AllByRecursion (EachTable s c) (parts_in_item l) → IfSome (value_behind_in l) (HasWithin s c)
+behind-value : (s : Scope) (c : Context) (l : ItemLayer) → AllByRecursion (IsKnown s c) (parts_in_item l) → IfSome (value_behind_in l) (HasWithin s c)
 behind-value s c (Item-F.Others place e) has = tt
 behind-value s c (Item-F.Item::Open place) has = tt
 behind-value s c (Item-F.Positional choice) has = tt
 behind-value s c (Item-F.Named a) has = actual-value s c (out-Actual a.actual) has
 
-item-parts : (s : Scope) (c : Context) (i : Item') → EachTable s c (Item i) → AllByRecursion (EachTable s c) (parts_in_item (out-Item i))
+item-parts : (s : Scope) (c : Context) (i : Item') → IsKnown s c (Item i) → AllByRecursion (IsKnown s c) (parts_in_item (out-Item i))
 unfolding parts_of
-item-parts s c i has = tables-of-parts s c (Item i) has
+item-parts s c i has = known-parts s c (Item i) has
 
-pub in-actual : (s : Scope) (c : Context) (i : Item') → EachTable s c (Item i) → IfSome (actual i) (HasWithin s c)
+pub in-actual : (s : Scope) (c : Context) (i : Item') → IsKnown s c (Item i) → IfSome (actual i) (HasWithin s c)
 in-actual s c i has = given-value s c (out-Item i) (item-parts s c i has)
 
-in-position : (s : Scope) (c : Context) (i : Item') → EachTable s c (Item i) → IfSome (positional_value i) (HasWithin s c)
+in-position : (s : Scope) (c : Context) (i : Item') → IsKnown s c (Item i) → IfSome (positional_value i) (HasWithin s c)
 in-position s c i has = position-value s c (out-Item i) (item-parts s c i has)
 
 if-named : {A : Type 0} (P : A → Type 0) (b : Bool) (o : Option A) → IfSome o P → IfSome (cond b o None) P
 if-named P true o holds = holds
 if-named P false o holds = tt
 
-in-name : (s : Scope) (c : Context) (name : List ℕ) (i : Item') → EachTable s c (Item i) → IfSome (value_named name i) (HasWithin s c)
+in-name : (s : Scope) (c : Context) (name : List ℕ) (i : Item') → IsKnown s c (Item i) → IfSome (value_named name i) (HasWithin s c)
 in-name s c name i has = if-named (HasWithin s c) (is_named name i) (value_behind i) (behind-value s c (out-Item i) (item-parts s c i has))
 
 abbrev pub HasItems : Scope → Context → List Item' → Type 0
-HasItems s c is = AllByRecursion (λ i. EachTable s c (Item i)) is
+HasItems s c is = AllByRecursion (λ i. IsKnown s c (Item i)) is
 
-each-item : (s : Scope) (c : Context) (is : List Item') → AllByRecursion (EachTable s c) (items is) → HasItems s c is
+each-item : (s : Scope) (c : Context) (is : List Item') → AllByRecursion (IsKnown s c) (items is) → HasItems s c is
 each-item s c [] has = tt
 each-item s c (i ∷ is) has = (has.0, each-item s c is has.1)
 
-layer-items : (s : Scope) (c : Context) (l : ExprLayer) → AllByRecursion (EachTable s c) (parts_in_expr l) → IfSome (items_in_expr l) (HasItems s c)
+layer-items : (s : Scope) (c : Context) (l : ExprLayer) → AllByRecursion (IsKnown s c) (parts_in_expr l) → IfSome (items_in_expr l) (HasItems s c)
 layer-items s c (Expr-F.Logical place operator operands) has = tt
 layer-items s c (Expr-F.Relation r) has = tt
 layer-items s c (Expr-F.Sum u) has = tt
@@ -103,18 +104,18 @@ layer-items s c (Expr-F.Parenthesized place is) has = each-item s c is has
 
 in-items : (s : Scope) (c : Context) (e : Expr) → HasWithin s c e → IfSome (listed_items e) (HasItems s c)
 unfolding parts_of
-in-items s c e has = layer-items s c (out-Expr e) (tables-of-parts s c (Expression e) has)
+in-items s c e has = layer-items s c (out-Expr e) (known-parts s c (Expression e) has)
 
 -- ---- the parts of a path
 
 abbrev HasParts : Scope → Context → PathParts → Type 0
-HasParts s c q = HasWithin s c q.delay × HasWithin s c q.condition
+HasParts s c q = HasWithin s c q.change × (HasWithin s c q.delay × HasWithin s c q.condition)
 
-from-parts : (s : Scope) (c : Context) (change delay condition : Option Expr) → IfSome delay (HasWithin s c) → IfSome condition (HasWithin s c) → IfSome (parts_from change delay condition) (HasParts s c)
-from-parts s c None d b delay condition = tt
-from-parts s c (Some e) None b delay condition = tt
-from-parts s c (Some e) (Some d) None delay condition = tt
-from-parts s c (Some e) (Some d) (Some b) delay condition = (delay, condition)
+from-parts : (s : Scope) (c : Context) (change delay condition : Option Expr) → IfSome change (HasWithin s c) → IfSome delay (HasWithin s c) → IfSome condition (HasWithin s c) → IfSome (parts_from change delay condition) (HasParts s c)
+from-parts s c None d b change delay condition = tt
+from-parts s c (Some e) None b change delay condition = tt
+from-parts s c (Some e) (Some d) None change delay condition = tt
+from-parts s c (Some e) (Some d) (Some b) change delay condition = (change, (delay, condition))
 
 one-of : {A : Type 0} (P : A → Type 0) (b : Bool) (o q : Option A) → IfSome o P → IfSome q P → IfSome (cond b o q) P
 one-of P true o q first second = first
@@ -126,8 +127,8 @@ items-parts s c (i ∷ []) has = tt
 items-parts s c (i ∷ j ∷ []) has = tt
 items-parts s c (i ∷ j ∷ k ∷ []) has =
     one-of (HasParts s c) (are_positional (i ∷ j ∷ k ∷ [])) (positional_parts i j k) (named_parts i j k)
-    (from-parts s c _ _ _ (in-position s c j has.1.0) (in-position s c k has.1.1.0))
-    (from-parts s c _ _ _ (in-name s c _ j has.1.0) (in-name s c _ k has.1.1.0))
+    (from-parts s c _ _ _ (in-position s c i has.0) (in-position s c j has.1.0) (in-position s c k has.1.1.0))
+    (from-parts s c _ _ _ (in-name s c _ i has.0) (in-name s c _ j has.1.0) (in-name s c _ k has.1.1.0))
 items-parts s c (i ∷ j ∷ k ∷ l ∷ is) has = tt
 
 expr-parts : (s : Scope) (c : Context) (e : Expr) → HasWithin s c e → IfSome (path_parts e) (HasParts s c)
@@ -138,24 +139,25 @@ expr-parts s c e has = if-and-then (HasItems s c) (HasParts s c) parts_of_items 
 abbrev SoundChange : ActualScope → List ℕ → Type 0
 SoundChange s n = is_sound_name s form.Signal n ≡ true
 
-change-name : (s : ActualScope) (p : Position) (r : Reference) → IsActualScopeOf s p → IfSome (change_named p r) (SoundChange s)
-change-name s p r scope = if-named (SoundChange s) (is_last_event r.suffixes) (name_for p form.Signal r.identifier) (name-sound s p form.Signal r.identifier scope)
+change-name : (s : ActualScope) (p : Position) (r : Reference) → IsActualScopeOf s p → HasIdentifier s.names p r.identifier → IfSome (change_named p r) (SoundChange s)
+change-name s p r scope known = if-named (SoundChange s) (is_last_event r.suffixes) (name_for p form.Signal r.identifier) (name-sound s p form.Signal r.identifier scope known)
 
-change-layer : (s : ActualScope) (p : Position) (l : ExprLayer) → IsActualScopeOf s p → IfSome (change_in p l) (SoundChange s)
-change-layer s p (Expr-F.Logical place operator operands) scope = tt
-change-layer s p (Expr-F.Relation r) scope = tt
-change-layer s p (Expr-F.Sum u) scope = tt
-change-layer s p (Expr-F.Product q) scope = tt
-change-layer s p (Expr-F.Not place operand) scope = tt
-change-layer s p (Expr-F.Number place number) scope = tt
-change-layer s p (Expr-F.Physical physical) scope = tt
-change-layer s p (Expr-F.Character place character) scope = tt
-change-layer s p (Expr-F.StringLiteral place text) scope = tt
-change-layer s p (Expr-F.Reference name) scope = change-name s p name scope
-change-layer s p (Expr-F.Parenthesized place is) scope = tt
+change-layer : (s : ActualScope) (c : Context) (l : ExprLayer) → IsActualScopeOf s c.position → AllByRecursion (IsKnown s.names c) (parts_in_expr l) → IfSome (change_in c.position l) (SoundChange s)
+change-layer s c (Expr-F.Logical place operator operands) scope known = tt
+change-layer s c (Expr-F.Relation r) scope known = tt
+change-layer s c (Expr-F.Sum u) scope known = tt
+change-layer s c (Expr-F.Product q) scope known = tt
+change-layer s c (Expr-F.Not place operand) scope known = tt
+change-layer s c (Expr-F.Number place number) scope known = tt
+change-layer s c (Expr-F.Physical physical) scope known = tt
+change-layer s c (Expr-F.Character place character) scope known = tt
+change-layer s c (Expr-F.StringLiteral place text) scope known = tt
+change-layer s c (Expr-F.Reference name) scope known = change-name s c.position name scope (known-here s.names c (Name name) known.0).0
+change-layer s c (Expr-F.Parenthesized place is) scope known = tt
 
-change-sound : (s : ActualScope) (c : Context) (e : Expr) → IsActualScopeOf s c.position → IfTyped (SoundChange s) (change_of c e)
-change-sound s c e scope = if-or (SoundChange s) (breach c e) (change_at c.position e) (change-layer s c.position (out-Expr e) scope)
+change-sound : (s : ActualScope) (c : Context) (e : Expr) → IsActualScopeOf s c.position → HasWithin s.names c e → IfTyped (SoundChange s) (change_of c e)
+unfolding parts_of
+change-sound s c e scope known = if-or (SoundChange s) (breach c e) (change_at c.position e) (change-layer s c (out-Expr e) scope (known-parts s.names c (Expression e) known))
 
 -- ---- paths
 
@@ -168,10 +170,10 @@ SoundPair s d q = (is_sound_delay s.names d q.0 && is_sound_boolean s.names q.1)
 parts-sound : (s : ActualScope) (c : Context) (d : DelayType) (q : PathParts) → IsActualScopeOf s c.position → HasParts s.names c q → IfTyped (SoundPath s d) (path_of_parts c d q)
 parts-sound s c d q scope has =
     if-both (SoundChange s) (SoundPair s d) (SoundPath s d) path_typed (change_of c q.change) (both pair_typed (delay_of c d q.delay) (boolean_of c q.condition))
-    (change-sound s c q.change scope)
+    (change-sound s c q.change scope has.0)
     (if-both (λ t. is_sound_delay s.names d t ≡ true) (λ t. is_sound_boolean s.names t ≡ true) (SoundPair s d) pair_typed (delay_of c d q.delay) (boolean_of c q.condition)
-    ((node-sound-by s.names c (Expression q.delay) scope.names has.0).delay d)
-    (node-sound-by s.names c (Expression q.condition) scope.names has.1).boolean
+    ((known-sound s.names c (Expression q.delay) has.1.0).delay d)
+    (known-sound s.names c (Expression q.condition) has.1.1).boolean
     (λ t u first second. both-true (is_sound_delay s.names d t) (is_sound_boolean s.names u) first second))
     (λ n p first second. both-true (s.names.has_signal n) (is_sound_delay s.names d p.0 && is_sound_boolean s.names p.1) first second)
 

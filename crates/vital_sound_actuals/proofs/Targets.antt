@@ -1,4 +1,4 @@
--- Targets are sound where all that names stand for is in a scope.
+-- Targets are sound where what their names stand for is in a scope.
 use Rattle.std.proofs.Common.{◌≡◌, ℕ, ◌<◌, true, List, [], ◌∷◌, Option, Some, None}
 use Rattle.std.specs.Prelude.{IfSome}
 use Rattle.std.specs.Option.{option_and_then, option_map}
@@ -14,7 +14,7 @@ use Rattle.vital_nodes.specs.declared.expr.Suffix.{Suffix}
 use Rattle.vital_nodes.specs.declared.identifier.Identifier.{Identifier}
 use Rattle.vital_operands.specs.Named.{length_of_standing, offset_in_standing}
 use Rattle.vital_operands.specs.Positions.{Position, Standing, Operand, Constant, Word, Nothing, changes, standing}
-use Rattle.vital_sound_expr.specs.Positions.{HasStanding, HasTarget, HasVariable, IsScopeOf}
+use Rattle.vital_sound_expr.specs.Positions.{HasIdentifier, HasStanding, HasTarget, HasVariable}
 use Rattle.vital_sound_expr.specs.Scopes.{Scope}
 use Rattle.vital_sound_expr.proofs.Names.{offset-inside}
 use Rattle.vital_sound_actuals.specs.SoundActuals.{is_sound_target}
@@ -44,8 +44,8 @@ standing-vector s p name (Constant n o) h has = tt
 standing-vector s p name (Word w) h has = tt
 standing-vector s p name Nothing h has = tt
 
-pub vector-sound : (s : Scope) (p : Position) (i : Identifier) → changes p ≡ true → IsScopeOf s p → IfSome (whole_vector p i) (SoundTarget s)
-vector-sound s p i h scope = standing-vector s p i.name (standing p i) h (scope i)
+pub vector-sound : (s : Scope) (p : Position) (i : Identifier) → changes p ≡ true → HasIdentifier s p i → IfSome (whole_vector p i) (SoundTarget s)
+vector-sound s p i h known = standing-vector s p i.name (standing p i) h known
 
 -- ---- identifiers alone
 
@@ -56,28 +56,28 @@ alias-sound s p (alias.Constant o) h has = tt
 alias-sound s p (alias.PackageConstant n o) h has = tt
 alias-sound s p alias.NoTarget h has = tt
 
-variable-sound : (s : Scope) (p : Position) (i : Identifier) (t : VariableType) → changes p ≡ true → IsScopeOf s p → HasVariable s i.name t → IfSome (target_of_variable p i t) (SoundTarget s)
-variable-sound s p i Level h scope has = has
-variable-sound s p i X01 h scope has = has
-variable-sound s p i (VectorOf r) h scope has = vector-sound s p i h scope
-variable-sound s p i GlitchData h scope has = tt
-variable-sound s p i TimingData h scope has = tt
-variable-sound s p i PeriodData h scope has = tt
+variable-sound : (s : Scope) (p : Position) (i : Identifier) (t : VariableType) → changes p ≡ true → HasIdentifier s p i → HasVariable s i.name t → IfSome (target_of_variable p i t) (SoundTarget s)
+variable-sound s p i Level h known has = has
+variable-sound s p i X01 h known has = has
+variable-sound s p i (VectorOf r) h known has = vector-sound s p i h known
+variable-sound s p i GlitchData h known has = tt
+variable-sound s p i TimingData h known has = tt
+variable-sound s p i PeriodData h known has = tt
 
-standing-sound : (s : Scope) (p : Position) (i : Identifier) (st : Standing) → changes p ≡ true → IsScopeOf s p → HasStanding s p i.name st → IfSome (target_of_kind p i (operand_in st)) (SoundTarget s)
-standing-sound s p i (Operand Signal) h scope has = tt
-standing-sound s p i (Operand (Port m t)) h scope has = tt
-standing-sound s p i (Operand (VariableOf t)) h scope has = variable-sound s p i t h scope (has h)
-standing-sound s p i (Operand (ConstantOf t)) h scope has = tt
-standing-sound s p i (Operand (Generic t)) h scope has = tt
-standing-sound s p i (Operand (AliasOf t)) h scope has = alias-sound s p t h has
-standing-sound s p i (Operand NoOperand) h scope has = tt
-standing-sound s p i (Constant n o) h scope has = tt
-standing-sound s p i (Word w) h scope has = tt
-standing-sound s p i Nothing h scope has = tt
+standing-sound : (s : Scope) (p : Position) (i : Identifier) (st : Standing) → changes p ≡ true → HasIdentifier s p i → HasStanding s p i.name st → IfSome (target_of_kind p i (operand_in st)) (SoundTarget s)
+standing-sound s p i (Operand Signal) h known has = tt
+standing-sound s p i (Operand (Port m t)) h known has = tt
+standing-sound s p i (Operand (VariableOf t)) h known has = variable-sound s p i t h known (has h)
+standing-sound s p i (Operand (ConstantOf t)) h known has = tt
+standing-sound s p i (Operand (Generic t)) h known has = tt
+standing-sound s p i (Operand (AliasOf t)) h known has = alias-sound s p t h has
+standing-sound s p i (Operand NoOperand) h known has = tt
+standing-sound s p i (Constant n o) h known has = tt
+standing-sound s p i (Word w) h known has = tt
+standing-sound s p i Nothing h known has = tt
 
-pub whole-sound : (s : Scope) (p : Position) (i : Identifier) → changes p ≡ true → IsScopeOf s p → IfSome (whole_target p i) (SoundTarget s)
-whole-sound s p i h scope = standing-sound s p i (standing p i) h scope (scope i)
+pub whole-sound : (s : Scope) (p : Position) (i : Identifier) → changes p ≡ true → HasIdentifier s p i → IfSome (whole_target p i) (SoundTarget s)
+whole-sound s p i h known = standing-sound s p i (standing p i) h known known
 
 -- ---- elements
 
@@ -105,14 +105,14 @@ standing-element s p name (Constant n o) index h has = tt
 standing-element s p name (Word w) index h has = tt
 standing-element s p name Nothing index h has = tt
 
-indexed-sound : (s : Scope) (p : Position) (i : Identifier) (o : Option (List ℕ)) → changes p ≡ true → IsScopeOf s p → IfSome (option_and_then (element_at p i) o) (SoundTarget s)
-indexed-sound s p i None h scope = tt
-indexed-sound s p i (Some index) h scope = standing-element s p i.name (standing p i) index h (scope i)
+indexed-sound : (s : Scope) (p : Position) (i : Identifier) (o : Option (List ℕ)) → changes p ≡ true → HasIdentifier s p i → IfSome (option_and_then (element_at p i) o) (SoundTarget s)
+indexed-sound s p i None h known = tt
+indexed-sound s p i (Some index) h known = standing-element s p i.name (standing p i) index h known
 
-behind-sound : (s : Scope) (p : Position) (i : Identifier) (ss : List Suffix) → changes p ≡ true → IsScopeOf s p → IfSome (target_behind p i ss) (SoundTarget s)
-behind-sound s p i [] h scope = whole-sound s p i h scope
-behind-sound s p i (t ∷ ss) h scope = indexed-sound s p i (literal_index (t ∷ ss)) h scope
+behind-sound : (s : Scope) (p : Position) (i : Identifier) (ss : List Suffix) → changes p ≡ true → HasIdentifier s p i → IfSome (target_behind p i ss) (SoundTarget s)
+behind-sound s p i [] h known = whole-sound s p i h known
+behind-sound s p i (t ∷ ss) h known = indexed-sound s p i (literal_index (t ∷ ss)) h known
 
 -- What a name is as the target of an assignment.
-pub named-sound : (s : Scope) (p : Position) (r : Reference) → changes p ≡ true → IsScopeOf s p → IfSome (target_named p r) (SoundTarget s)
-named-sound s p r h scope = behind-sound s p r.identifier r.suffixes h scope
+pub named-sound : (s : Scope) (p : Position) (r : Reference) → changes p ≡ true → HasIdentifier s p r.identifier → IfSome (target_named p r) (SoundTarget s)
+named-sound s p r h known = behind-sound s p r.identifier r.suffixes h known

@@ -1,10 +1,9 @@
--- When all that names stand for in a statement is in a scope.
+-- When what names stand for in a statement is in a scope, as far as only actuals ask for it.
 use Rattle.std.specs.Prelude.{◌≡◌, ℕ, true, List, ⊤}
 use Rattle.vital_actuals.specs.Kinds.{is_driven_mode, operand_named}
 use Rattle.vital_declarations.specs.Operands.{OperandKind, Signal, Port, VariableOf, ConstantOf, Generic, AliasOf, NoOperand, VariableType, Level, X01, VectorOf, GlitchData, TimingData, PeriodData, is_level}
 use Rattle.vital_nodes.specs.declared.identifier.Identifier.{Identifier}
 use Rattle.vital_operands.specs.Positions.{Position, changes}
-use Rattle.vital_sound_expr.specs.Positions.{IsScopeOf}
 use Rattle.vital_sound_actuals.specs.ActualScopes.{ActualScope}
 
 -- The variable of a name, as far as an actual asks more of it than an expression.
@@ -26,8 +25,7 @@ HasNamed s name (Generic t) = ⊤
 HasNamed s name (AliasOf t) = ⊤
 HasNamed s name NoOperand = ⊤
 
--- A position is that of a statement, and each identifier stands for something in the scope.
+-- A position is that of a statement, and what is declared for each identifier is in the scope.
 pub record IsActualScopeOf (s : ActualScope) (p : Position) : Type 0 where
   pub in_statement : changes p ≡ true
-  pub names : IsScopeOf s.names p
   pub named : (i : Identifier) → HasNamed s i.name (operand_named p i)

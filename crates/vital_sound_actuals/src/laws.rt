@@ -11,14 +11,17 @@ ghost use Rattle.vital_sound_actuals.specs.ActualPositions.{IsActualScopeOf};
 ghost use Rattle.vital_sound_actuals.specs.ActualScopes.{ActualScope};
 ghost use Rattle.vital_sound_actuals.specs.SoundActuals.{is_sound_actual, is_sound_target};
 ghost use Rattle.vital_sound_expr.specs.Calls.{HasTables};
+ghost use Rattle.vital_sound_expr.specs.Positions.{IsScopeOf};
 ghost use Rattle.vital_sound_expr.specs.Told.{IsTold};
 
-/// Where all that names stand for in a statement is in a scope, and so are the tables of the calls in an item, what the item gives is
-/// sound in that scope, whichever form is asked of it; and so is what a name is as a target: a law, called for its clauses.
+/// Where what names stand for in a statement is in a scope, and so are what the names in an item stand for and the tables of the calls
+/// in it, what the item gives is sound in that scope, whichever form is asked of it; and so is what a name is as a target, where what it
+/// stands for is there: a law, called for its clauses.
 pub fn read_actuals_are_sound()
-    ensures actuals { (s : ActualScope) (c : Context) (f : ActualForm) (i : Item) → IsActualScopeOf s c.position → HasTables s.names c (nodes.Item i)
+    ensures actuals { (s : ActualScope) (c : Context) (f : ActualForm) (i : Item) → IsActualScopeOf s c.position → IsScopeOf s.names c.position (nodes.Item i)
+        → HasTables s.names c (nodes.Item i)
         → IfSome (actual_of c f i).tree (λ a. is_sound_actual s f a ≡ true) }
-    ensures targets { (s : ActualScope) (c : Context) (r : Reference) → IsActualScopeOf s c.position
+    ensures targets { (s : ActualScope) (c : Context) (r : Reference) → IsActualScopeOf s c.position → IsScopeOf s.names c.position (nodes.Name r)
         → IfSome (target_of c r).tree (λ t. is_sound_target s.names t ≡ true) }
 {}
 
