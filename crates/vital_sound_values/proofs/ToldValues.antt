@@ -1,10 +1,15 @@
 -- It is told what comes of values and defaults, where no name breaks another clause.
 use Rattle.std.proofs.Common.{◌≡◌, ℕ, [], Option, Some, None, refl}
 use Rattle.vital_expr.specs.Readings.{Context, boolean_of, delay_of, level_of, text_of, time_of, vector_of}
+use Rattle.vital_level0.specs.declared.default_words.DefaultWord.{DefaultWord}
+use Rattle.vital_level0.specs.DefaultWords.{default_word}
+use Rattle.vital_nodes.specs.declared.decl.Iface.{Iface}
 use Rattle.vital_nodes.specs.declared.expr.Expr.{Expr}
 use Rattle.vital_typed_declarations.specs.declared.asked_type.AskedType.{AskedType}
 use Rattle.vital_typed_declarations.specs.declared.asked_type.AskedType.TheVariants as asked
 use Rattle.vital_typed_declarations.specs.declared.value.TypedValue.TheVariants as value
+use Rattle.vital_typed_declarations.specs.Asked.{of_generic}
+use Rattle.vital_typed_declarations.specs.Declarations.{generic_value, generic_value_by}
 use Rattle.vital_typed_declarations.specs.Values.{boolean_constant, boolean_default_by, value_as, value_if_given}
 use Rattle.vital_sound_expr.specs.Told.{IsTold}
 use Rattle.vital_sound_expr.proofs.Told.{told-mapped}
@@ -27,3 +32,10 @@ as-told c asked.Nothing e none = λ is. refl
 pub value-told : (c : Context) (a : AskedType) (o : Option Expr) → c.faults ≡ [] → IsTold (value_if_given c a o)
 value-told c a None none = λ is. refl
 value-told c a (Some e) none = as-told c a e none
+
+by-word : (c : Context) (i : Iface) (w : Option DefaultWord) → c.faults ≡ [] → IsTold (generic_value_by c i w)
+by-word c i None none = value-told c (of_generic i) i.parts.default none
+by-word c i (Some w) none = λ is. refl
+
+pub generic-told : (c : Context) (i : Iface) → c.faults ≡ [] → IsTold (generic_value c i)
+generic-told c i none = by-word c i (default_word i) none
