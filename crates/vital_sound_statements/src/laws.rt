@@ -4,7 +4,7 @@ ghost use Rattle.std.specs.Prelude.{◌≡◌, true, List, [], IfSome};
 ghost use Rattle.vital_base.specs.declared.place.Place.{Place};
 ghost use Rattle.vital_expr.specs.Readings.{Context};
 ghost use Rattle.vital_names.specs.Sites.{Cell};
-ghost use Rattle.vital_nodes.specs.Nodes.{Expression};
+ghost use Rattle.vital_nodes.specs.Nodes.{Expression, Name};
 ghost use Rattle.vital_nodes.specs.declared.expr.Reference.{Reference};
 ghost use Rattle.vital_nodes.specs.declared.stmt.Process.{Process};
 ghost use Rattle.vital_nodes.specs.declared.stmt.Stmt.{Stmt};
@@ -12,14 +12,16 @@ ghost use Rattle.vital_nodes.specs.declared.stmt.VariableAssignment.{VariableAss
 ghost use Rattle.vital_sound_actuals.specs.ActualPositions.{IsActualScopeOf};
 ghost use Rattle.vital_sound_actuals.specs.ActualScopes.{ActualScope};
 ghost use Rattle.vital_sound_expr.specs.Calls.{HasTables};
+ghost use Rattle.vital_sound_expr.specs.Positions.{IsScopeOf};
 ghost use Rattle.vital_sound_expr.specs.Told.{IsTold};
 ghost use Rattle.vital_sound_statements.specs.SoundAssignments.{is_sound_assignment};
 ghost use Rattle.vital_typed_statements.specs.Statements.{assignment, concurrent_call, statement_of};
 
-/// Where all that names stand for in a statement is in a scope, and so are the tables of the calls in the value of an assignment, the
-/// assignment is sound in that scope: a law, called for its clause.
+/// Where what names stand for in a statement is in a scope, and so are what the names in an assignment stand for and the tables of the
+/// calls in its value, the assignment is sound in that scope: a law, called for its clause.
 pub fn read_assignments_are_sound()
-    ensures { (s : ActualScope) (c : Context) (a : VariableAssignment) → IsActualScopeOf s c.position → HasTables s.names c (Expression a.value)
+    ensures { (s : ActualScope) (c : Context) (a : VariableAssignment) → IsActualScopeOf s c.position → IsScopeOf s.names c.position (Name a.target)
+        → IsScopeOf s.names c.position (Expression a.value) → HasTables s.names c (Expression a.value)
         → IfSome (assignment c a).tree (λ t. is_sound_assignment s.names t ≡ true) }
 {}
 
