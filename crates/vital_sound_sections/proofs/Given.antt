@@ -3,15 +3,15 @@ use Rattle.std.proofs.Common.{◌≡◌, ℕ, ◌+◌, Bool, true, false, List, 
 use Rattle.std.specs.Prelude.{IfSome, cond, find, unwrap_or}
 use Rattle.std.specs.List.{AllByRecursion, enumerate_from, list_all}
 use Rattle.std.specs.Option.{option_and_then, option_map}
-use Rattle.std.proofs.lemmas.List.Elements.{recursion_from_All}
 use Rattle.vital_actuals.specs.declared.actual.Actual.{Actual}
 use Rattle.vital_actuals.specs.declared.actual.Actual.TheVariants as actual
 use Rattle.vital_actuals.specs.Actuals.{actual_of}
 use Rattle.vital_calls.specs.declared.actual_form.ActualForm.{ActualForm}
 use Rattle.vital_calls.specs.declared.actual_form.ActualForm.TheVariants as form
 use Rattle.vital_calls.specs.Matching.{actual_of as item_for, is_for}
+use Rattle.vital_expr.specs.Readings.{Context}
+use Rattle.vital_nodes.specs.declared.expr.Item.{Item as Item'}
 use Rattle.vital_nodes.specs.Nodes.{Item}
-use Rattle.vital_nodes.specs.Walk.{nodes_of}
 use Rattle.vital_operands.specs.declared.tree.BooleanExpr.TheVariants as truth
 use Rattle.vital_operands.specs.declared.tree.DelayExpr.TheVariants as delay
 use Rattle.vital_operands.specs.declared.tree.TimeExpr.TheVariants as time
@@ -19,22 +19,31 @@ use Rattle.vital_operands.specs.Named.{even_delay}
 use Rattle.vital_sections.specs.Given.{GivenCall, delay_given, delay_in, edge_given, edge_in, given, level_given, level_in, name_given, name_in, paths_given, paths_in, time_given, time_in, truth_given, truth_in}
 use Rattle.vital_tables.specs.Symbols.{edge_symbols, is_among}
 use Rattle.vital_timing.specs.declared.delay.DelayType.{DelayType}
-use Rattle.vital_sound_expr.specs.Calls.{HasTableAt, HasTables}
+use Rattle.vital_sound_expr.specs.Calls.{HasTables}
+use Rattle.vital_sound_expr.specs.Positions.{IsScopeOf}
 use Rattle.vital_sound_expr.specs.Scopes.{Scope}
 use Rattle.vital_sound_expr.specs.Trees.{is_sound_boolean, is_sound_delay, is_sound_level, is_sound_time}
 use Rattle.vital_sound_expr.proofs.Names.{zero-delay}
+use Rattle.vital_sound_expr.proofs.Nodes.{IsKnown, known-by}
 use Rattle.vital_sound_expr.proofs.Outcomes.{if-and-then}
 use Rattle.vital_sound_expr.proofs.Trees.{sound-truth}
 use Rattle.vital_sound_actuals.specs.ActualPositions.{IsActualScopeOf}
 use Rattle.vital_sound_actuals.specs.ActualScopes.{ActualScope}
 use Rattle.vital_sound_actuals.specs.SoundActuals.{is_sound_name, is_sound_path}
 use Rattle.vital_sound_actuals.proofs.Actuals.{SoundActual, item-sound}
-use Rattle.vital_sound_sections.specs.GivenTables.{HasGivenTables}
+use Rattle.vital_sound_sections.specs.GivenItems.{HasGivenNames, HasGivenTables}
 
 -- What all that is given in a call is read by.
 pub record IsCallIn (s : ActualScope) (k : GivenCall) : Type 0 where
   pub scope : IsActualScopeOf s k.context.position
-  pub tables : HasGivenTables s.names k
+  pub known : AllByRecursion (λ i. IsKnown s.names k.context (Item i)) k.items
+
+each-known : (s : Scope) (c : Context) (is : List Item') → AllByRecursion (λ i. IsScopeOf s c.position (Item i)) is → AllByRecursion (λ i. HasTables s c (Item i)) is → AllByRecursion (λ i. IsKnown s c (Item i)) is
+each-known s c [] names tables = tt
+each-known s c (i ∷ is) names tables = (known-by s c (Item i) names.0 tables.0, each-known s c is names.1 tables.1)
+
+pub call-in : (s : ActualScope) (k : GivenCall) → IsActualScopeOf s k.context.position → HasGivenNames s.names k → HasGivenTables s.names k → IsCallIn s k
+call-in s k scope names tables = record { scope = scope; known = each-known s.names k.context k.items names tables }
 
 first-or : {A : Type 0} (P : A → Type 0) (b : Bool) (e : ℕ × A) (o : Option (ℕ × A)) → P e.1 → IfSome (option_map (λ e. e.1) o) P → IfSome (option_map (λ e. e.1) (cond b (Some e) o)) P
 first-or P true e o first others = first
@@ -44,15 +53,15 @@ found : {A : Type 0} (P : A → Type 0) (test : (ℕ × A) → Bool) (xs : List 
 found P test [] n all = tt
 found P test (x ∷ xs) n all = first-or P (test (n, x)) (n, x) (find test (enumerate_from (n + 1) xs)) all.0 (found P test xs (n + 1) all.1)
 
-item-there : (s : Scope) (k : GivenCall) (name : List ℕ) → HasGivenTables s k → IfSome (item_for k.items k.formals name) (λ i. HasTables s k.context (Item i))
+item-there : (s : ActualScope) (k : GivenCall) (name : List ℕ) → IsCallIn s k → IfSome (item_for k.items k.formals name) (λ i. IsKnown s.names k.context (Item i))
 unfolding item_for
-item-there s k name has = found (λ i. HasTables s k.context (Item i)) (λ e. is_for name k.formals e.0 e.1) k.items 0 has
+item-there s k name in-call = found (λ i. IsKnown s.names k.context (Item i)) (λ e. is_for name k.formals e.0 e.1) k.items 0 in-call.known
 
 pub given-sound : (s : ActualScope) (k : GivenCall) (name : List ℕ) (f : ActualForm) → IsCallIn s k → IfSome (given k name f) (SoundActual s f)
 unfolding given
 given-sound s k name f in-call =
-    if-and-then (λ i. HasTables s.names k.context (Item i)) (SoundActual s f) (λ i. (actual_of k.context f i).tree) (item_for k.items k.formals name) (item-there s.names k name in-call.tables)
-    (λ i has. item-sound s k.context f i in-call.scope (recursion_from_All (HasTableAt s.names k.context) (nodes_of (Item i)) has))
+    if-and-then (λ i. IsKnown s.names k.context (Item i)) (SoundActual s f) (λ i. (actual_of k.context f i).tree) (item_for k.items k.formals name) (item-there s k name in-call)
+    (λ i known. item-sound s k.context f i in-call.scope known)
 
 -- ---- what an actual is
 

@@ -1,3 +1,3 @@
 pub mod SoundStatements
-pub mod GivenTables
+pub mod GivenItems
 pub mod SoundTables

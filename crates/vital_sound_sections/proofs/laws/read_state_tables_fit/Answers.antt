@@ -1,5 +1,6 @@
+use Rattle.vital_sound_sections.proofs.Given.{call-in}
 use Rattle.vital_sound_sections.proofs.StateTables.{state-table-sound}
 use Rattle.vital_sound_sections.proofs.laws.read_state_tables_fit.Goals as goal
 
 pub returns : goal.returns
-returns a s k b scope has go = state-table-sound s k b (record { scope = scope; tables = has }) go
+returns a s k b scope names tables go = state-table-sound s k b (call-in s k scope names tables) go

@@ -1,9 +1,10 @@
 use Rattle.vital_sound_sections.proofs.Checks.{check-sound}
+use Rattle.vital_sound_sections.proofs.Given.{call-in}
 use Rattle.vital_sound_sections.proofs.PathDelays.{path-delay-sound}
 use Rattle.vital_sound_sections.proofs.laws.read_statements_are_sound.Goals as goal
 
 pub returns-clause-checks : goal.returns-clause-checks
-returns-clause-checks a s k c scope has = check-sound s k c (record { scope = scope; tables = has })
+returns-clause-checks a s k c scope names tables = check-sound s k c (call-in s k scope names tables)
 
 pub returns-clause-path_delays : goal.returns-clause-path_delays
-returns-clause-path_delays a s k d scope has = path-delay-sound s k d (record { scope = scope; tables = has })
+returns-clause-path_delays a s k d scope names tables = path-delay-sound s k d (call-in s k scope names tables)
