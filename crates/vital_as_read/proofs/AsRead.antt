@@ -21,7 +21,13 @@ entity_as_read {o} e x sound =
 process_as_read : {o : Source} {ts us : List Token} (outer : List Declared) (p : Process) → Each o identifier_of ts outer us → ProcessAlong o us p → AreSound o ts → IsProcessAsRead outer p
 process_as_read outer p before x sound =
     let left = sound_left (each_passed before) sound in
-    record { named = each_named x.each left; in_order = each_in_order x.each left; behind = each_before before x.each sound; together = x.together }
+    record {
+      named = each_named x.each left;
+      in_order = each_in_order x.each left;
+      behind = each_before before x.each sound;
+      together = x.together;
+      names_in_order = each_in_order x.names (sound_left (each_passed x.each) left);
+    }
 
 arch_as_read : {o : Source} {ts : List Token} (a : Arch) → ArchAlong o ts a → AreSound o ts → IsArchAsRead (Some a)
 arch_as_read a x sound = record {

@@ -26,27 +26,32 @@ use Rattle.vital_shapes.proofs.Identifiers.{written_takes, closing_takes}
 use Rattle.vital_shapes.proofs.Lists.{lists_down, single}
 use Rattle.vital_shapes.proofs.Outermost.{suffix_list_takes}
 use Rattle.vital_shapes.proofs.Rules as rules
-use Rattle.vital_shapes.proofs.Statements.{signal_assignment_takes, statements_take}
+use Rattle.vital_shapes.proofs.Statements.{signal_assignment_takes}
 use Rattle.vital_shapes.proofs.Steps.{◌&◌, choose, step, none_left, told_left, placed, token_first}
 use Rattle.vital_shapes.proofs.Takes.{Takes, followed, passed, gives}
 use Rattle.vital_uses.specs.Statements.{process as process_of, process_in}
 use Rattle.vital_walk.specs.Statements.{in_conc_layer}
 use Rattle.vital_walk.proofs.Values.{WalkLaw}
-use Rattle.vital_as_read.specs.AsRead.{AreTogether}
+use Rattle.vital_as_read.specs.AsRead.{AreTogether, names_among}
 use Rattle.vital_as_read.proofs.Declarations.{declarations_along}
 use Rattle.vital_as_read.proofs.Each.{Each, each_led, each_passed}
 use Rattle.vital_as_read.proofs.Identifiers.{IsFirst, identifier_is, one_each, stands_first}
+use Rattle.vital_as_read.proofs.NamesAlong.{names_along}
+use Rattle.vital_as_read.proofs.StatementsRead.{statements_take}
+use Rattle.vital_as_read.proofs.Strictly.{passing as statements_passed}
 use Rattle.vital_as_read.proofs.Processes.{processes_in, processes-append, processes-one}
 use denote.Hole.Carrier.{roll}
 
--- a process of which what it declares is declared along the tokens
+-- a process of which what it declares is declared along the tokens, and the names in its statements stand along those behind it
 pub record ProcessAlong (o : Source) (ts : List Token) (p : Process) : Type 0 where
   pub rest : List Token
   pub each : Each o identifier_of ts (declared_in p.declarations) rest
   pub together : AreTogether p.declarations
+  pub behind : List Token
+  pub names : Each o (λ x. x) rest (names_among p.statements) behind
 
 process_led : {o : Source} {ts us : List Token} {p : Process} → Along o ts [] us → ProcessAlong o us p → ProcessAlong o ts p
-process_led a p = record { rest = p.rest; each = each_led a p.each; together = p.together }
+process_led a p = record { rest = p.rest; each = each_led a p.each; together = p.together; behind = p.behind; names = p.names }
 
 pub processes_led : {o : Source} {ts us : List Token} (ps : List Process) → Along o ts [] us → All (ProcessAlong o us) ps → All (ProcessAlong o ts) ps
 processes_led ps a all = λ k d inside. process_led a (all k d inside)
@@ -68,14 +73,14 @@ record ProcessRead (o : Source) (ts : List Token) (p : Process) (us : List Token
   read : ProcessAlong o ts p
   passed : Along o ts [] us
 
-process_along : {o : Source} {n : ℕ} {ts : List Token} → Takes o n (s.process ∷ []) ts process (ProcessRead o ts)
+process_along : WalkLaw → {o : Source} {n : ℕ} {ts : List Token} → Takes o n (s.process ∷ []) ts process (ProcessRead o ts)
 unfolding process
-process_along = step 40 rules.process_is (token_first (λ qs a. followed sensitivity_takes (λ signals bs b. passed (written_takes 30 rules.optional_is_is) (λ _ cs f.
+process_along walked = step 40 rules.process_is (token_first (λ qs a. followed sensitivity_takes (λ signals bs b. passed (written_takes 30 rules.optional_is_is) (λ _ cs f.
     followed declarations_along (λ declared ds g. token_first (λ fs h. followed statements_take (λ found gs k. token_first (λ hs l. token_first (λ ks m.
     passed closing_takes (λ _ ls q. token_first (λ ms r. gives (record { sensitivity = signals; declarations = declared; statements = found })
     (let before = led a (led (passing b) f) in record {
-      read = record { rest = ds; each = each_led before g.each; together = g.together };
-      passed = led before (led (each_passed g.each) (led h (led (passing k) (led l (led m (led q r))))));
+      read = record { rest = ds; each = each_led before g.each; together = g.together; behind = gs; names = each_led h (names_along walked k) };
+      passed = led before (led (each_passed g.each) (led h (led (statements_passed k) (led l (led m (led q r))))));
     }))))))))))))
 
 module _ (walked : WalkLaw) where
@@ -120,7 +125,7 @@ module _ (walked : WalkLaw) where
         (λ form. if form == 0 then (process >>= λ x. pure (c.Process p (Some label) x)) else (if form == 1 then (skip >> (instance label >>= λ x. pure (c.ComponentInstance p x)))
         else (if form == 2 then (instance label >>= λ x. pure (c.Instance p x)) else (block inner >>= λ x. pure (c.Block p label x)))))
         rules.labelled_is
-        (followed process_along (λ y us a. gives (c.Process p (Some label) y) (one_process p (Some label) y x a))
+        (followed (process_along walked) (λ y us a. gives (c.Process p (Some label) y) (one_process p (Some label) y x a))
         & token_first (λ us a. followed (instance_takes label) (λ y ws b. gives (c.ComponentInstance p y)
         (made (Conc-F.ComponentInstance p y) (All-nil _) (led x (led a (passing b))))))
         & followed (instance_takes label) (λ y us a. gives (c.Instance p y) (made (Conc-F.Instance p y) (All-nil _) (led x (passing a))))
@@ -142,7 +147,7 @@ module _ (walked : WalkLaw) where
     conc_along = choose 32
         (λ form. place >>= λ p. if form == 0 then (process >>= λ x. pure (c.Process p None x)) else after_identifier inner p)
         rules.conc_is
-        (placed refl (λ p stands. followed process_along (λ x us a. gives (c.Process p None x) (one_process p None x stay a)))
+        (placed refl (λ p stands. followed (process_along walked) (λ x us a. gives (c.Process p None x) (one_process p None x stay a)))
         & placed refl (λ p stands. after_identifier_along p)
         & tt)
 

@@ -5,8 +5,12 @@ pub mod Concurrent
 pub mod Declarations
 pub mod Each
 pub mod Identifiers
+pub mod NamesAlong
+pub mod NamesRead
 pub mod Places
 pub mod Processes
 pub mod Reading
+pub mod StatementsRead
+pub mod Strictly
 pub mod Tokens
 pub mod Units

@@ -1,17 +1,22 @@
 -- Units and cells as they are read from files.
 use Rattle.std.specs.Prelude.{◌≡◌, true, Bool, All, AllPairs, List, [], ◌∷◌, Option, Some, None, find}
+use Rattle.std.specs.List.{filter_map}
 use Rattle.std.specs.Option.{option_map}
 use Rattle.vital_base.specs.Places.{is_before}
 use Rattle.vital_names.specs.Declarations.{Declared, body_of, declared_in, identifier_of, interface_of}
 use Rattle.vital_names.specs.Sites.{Cell}
 use Rattle.vital_names.specs.Viewpoints.{is_last}
 use Rattle.vital_nodes.specs.IdentifierNames.{IsIdentifierName}
+use Rattle.vital_nodes.specs.Nodes.{Node, Declaration, Interface, Concurrent, Sequential, Expression, Item, Name, sequentials}
+use Rattle.vital_nodes.specs.Walk.{nodes_of_all}
 use Rattle.vital_nodes.specs.declared.decl.Decl.{Decl}
 use Rattle.vital_nodes.specs.declared.decl.Decl.TheVariants as decl
 use Rattle.vital_nodes.specs.declared.decl.Iface.{Iface}
 use Rattle.vital_nodes.specs.declared.decl.ObjectClass.{ObjectClass}
 use Rattle.vital_nodes.specs.declared.decl.ObjectParts.{ObjectParts}
+use Rattle.vital_nodes.specs.declared.identifier.Identifier.{Identifier}
 use Rattle.vital_nodes.specs.declared.stmt.Process.{Process}
+use Rattle.vital_nodes.specs.declared.stmt.Stmt.{Stmt}
 use Rattle.vital_nodes.specs.declared.unit.Arch.{Arch}
 use Rattle.vital_nodes.specs.declared.unit.Entity.{Entity}
 use Rattle.vital_nodes.specs.declared.unit.Unit.{Unit as Unit'}
@@ -54,6 +59,25 @@ AreTogether ds = AreAlike is_last common_of ds
 abbrev pub AreInterfaceTogether : List Iface → Type 0
 AreInterfaceTogether is = AreAlike (λ i. i.is_last) (λ i. i.parts) is
 
+-- ---- names
+
+-- The identifier that a name begins with. No other node has one.
+abbrev pub first_identifier : Node → Option Identifier
+first_identifier (Declaration d) = None
+first_identifier (Interface i) = None
+first_identifier (Concurrent c) = None
+first_identifier (Sequential s) = None
+first_identifier (Expression e) = None
+first_identifier (Item i) = None
+first_identifier (Name r) = Some r.identifier
+
+-- Those of all names among statements, in order.
+abbrev pub names_among : List Stmt → List Identifier
+names_among ss = filter_map first_identifier (nodes_of_all (sequentials ss))
+
+abbrev pub PrecedesIdentifier : Identifier → Identifier → Type 0
+PrecedesIdentifier i j = is_before i.place j.place ≡ true
+
 -- ---- units
 
 -- What an entity declares has identifiers for names and stands in the order of its text, and what is declared together is alike.
@@ -63,12 +87,14 @@ pub record IsEntityAsRead (entity : Entity) : Type 0 where
   pub generics_together : AreInterfaceTogether entity.generics
   pub ports_together : AreInterfaceTogether entity.ports
 
--- The same of what a process declares, which stands behind what is declared around it.
+-- The same of what a process declares, which stands behind what is declared around it; and each name in its statements begins before the
+-- next one.
 pub record IsProcessAsRead (outer : List Declared) (p : Process) : Type 0 where
   pub named : All IsNamed (declared_in p.declarations)
   pub in_order : AllPairs StandsBefore (declared_in p.declarations)
   pub behind : All (λ d. All (StandsBefore d) (declared_in p.declarations)) outer
   pub together : AreTogether p.declarations
+  pub names_in_order : AllPairs PrecedesIdentifier (names_among p.statements)
 
 -- The same of what an architecture declares, if there is one, and of each of its processes.
 pub record IsArchAsRead (arch : Option Arch) : Type 0 where
