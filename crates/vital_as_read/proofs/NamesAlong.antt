@@ -12,11 +12,12 @@ use Rattle.vital_as_read.specs.AsRead.{first_identifier}
 use Rattle.vital_as_read.proofs.Each.{Each, each_joined, ends, here, over}
 use Rattle.vital_as_read.proofs.Strictly.{Strictly, named, other, past, stay}
 
-module _ (walked : WalkLaw) where
-  abbrev names_in : List Node → List Identifier
-  names_in vs = filter_map first_identifier (nodes_of_all vs)
+-- the identifiers of all names among nodes
+abbrev pub names_in : List Node → List Identifier
+names_in vs = filter_map first_identifier (nodes_of_all vs)
 
-  names_of_first : (v : Node) (vs : List Node) → names_in (v ∷ vs) ≡ cons_option (first_identifier v) (names_in (parts_of v) ++ names_in vs)
+module _ (walked : WalkLaw) where
+  pub names_of_first : (v : Node) (vs : List Node) → names_in (v ∷ vs) ≡ cons_option (first_identifier v) (names_in (parts_of v) ++ names_in vs)
   names_of_first v vs =
       ap (λ (ns : List Node). filter_map first_identifier (ns ++ nodes_of_all vs)) (walked v)
       ∙ ap (cons_option (first_identifier v)) (filter_map-append first_identifier (nodes_of_all (parts_of v)) (nodes_of_all vs))

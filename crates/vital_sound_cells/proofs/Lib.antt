@@ -1,4 +1,6 @@
 pub mod Apart
 pub mod Driven
+pub mod Given
+pub mod Kept
 pub mod Names
 pub mod Wires

@@ -33,7 +33,7 @@ use Rattle.vital_walk.proofs.Values.{WalkLaw}
 
 -- ---- statements with those in them
 
-first-with-others : WalkLaw → (c : Conc) (cs : List Conc) → all_concurrent (c ∷ cs) ≡ c ∷ in_concurrent c ++ all_concurrent cs
+pub first-with-others : WalkLaw → (c : Conc) (cs : List Conc) → all_concurrent (c ∷ cs) ≡ c ∷ in_concurrent c ++ all_concurrent cs
 first-with-others law c cs =
     ap (filter_map concurrent) (flat_map-append nodes_of (Concurrent c ∷ []) (concurrents cs))
     ∙ filter_map-append concurrent (nodes_of_all (Concurrent c ∷ [])) (nodes_of_all (concurrents cs))

@@ -9,9 +9,11 @@ ghost use Rattle.vital_drivers.specs.Clauses.{clause_6, clause_12};
 ghost use Rattle.vital_names.specs.Declarations.{body_of, declared_in, interface_of};
 ghost use Rattle.vital_names.specs.Sites.{Cell};
 ghost use Rattle.vital_sound_cells.specs.Drivers.{ports_driven, wires};
+ghost use Rattle.vital_sound_cells.specs.Kept.{names_kept};
 ghost use Rattle.vital_sound_cells.specs.Names.{names_of};
 ghost use Rattle.vital_statements.specs.Clauses.{clause_5};
 ghost use Rattle.vital_uses.specs.Statements.{processes};
+ghost use Rattle.vital_variables.specs.SecondUses.{clause_13};
 
 use vital_nodes::walked_in_preorder;
 
@@ -28,6 +30,14 @@ pub fn wires_are_apart()
 pub fn ports_are_driven_once()
     ensures { (cell : Cell) → clause_12 cell ≡ [] → IsDistinct bytes_eq (ports_driven cell) }
 {}
+
+/// In a cell that is as cells are read and doesn't break L1.13, no two calls of a process keep their states in one variable: a law, called for
+/// its clause.
+pub fn kept_variables_differ()
+    ensures { (cell : Cell) → IsAsRead cell → clause_13 cell ≡ [] → All (λ p. IsDistinct bytes_eq (names_kept cell p)) (processes cell.arch) }
+{
+    walked_in_preorder();
+}
 
 /// In a cell that is as cells are read and doesn't break L1.17, the names of what the architecture declares, and of the generics and ports,
 /// differ; and so do those with the names of what one of its processes declares: a law, called for its clauses.
