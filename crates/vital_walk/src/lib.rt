@@ -32,4 +32,4 @@ pub use statements::{all_concurrent, all_sequential};
 pub use subtype::{LiteralBounds, literal_bounds, literal_integer};
 pub use unit_parts::put_parts;
 pub use upward::{UpwardRule, fold_up};
-pub use walk::{nodes, nodes_of, nodes_of_all, nodes_of_arch, nodes_of_entity};
+pub use walk::{nodes, nodes_of, nodes_of_all};

@@ -31,10 +31,7 @@ pub fn put_parts<'a>(nodes: &mut Vec<Node<'a>>, node: Node<'a>) -> Result<(), Al
 
 /// Puts the parts of an entity at the end.
 #[tactic(auto, unfolding(vital_nodes::specs::Nodes::parts_of_unit))]
-pub fn put_parts_of_entity<'a>(
-    nodes: &mut Vec<Node<'a>>,
-    entity: &'a Entity,
-) -> Result<(), AllocError>
+fn put_parts_of_entity<'a>(nodes: &mut Vec<Node<'a>>, entity: &'a Entity) -> Result<(), AllocError>
     ensures { OnOk result (map seen nodes.new.items ≡ map seen nodes.old.items ++ parts_of_unit (units.Entity entity.now)) }
 {
     put_all(nodes, entity.generics.as_slice())?;
@@ -45,7 +42,7 @@ pub fn put_parts_of_entity<'a>(
 
 /// Puts the parts of an architecture at the end.
 #[tactic(auto, unfolding(vital_nodes::specs::Nodes::parts_of_unit))]
-pub fn put_parts_of_arch<'a>(nodes: &mut Vec<Node<'a>>, arch: &'a Arch) -> Result<(), AllocError>
+fn put_parts_of_arch<'a>(nodes: &mut Vec<Node<'a>>, arch: &'a Arch) -> Result<(), AllocError>
     ensures { OnOk result (map seen nodes.new.items ≡ map seen nodes.old.items ++ parts_of_unit (units.Arch arch.now)) }
 {
     put_all(nodes, arch.declarations.as_slice())?;

@@ -3,14 +3,13 @@
 ghost use Rattle.std.specs.Prelude.{◌≡◌, ◌++◌, map, reverse, IfOk, OnOk};
 ghost use Rattle.vital_nodes.specs.Nodes.{parts_of};
 ghost use Rattle.vital_nodes.specs.Walk.{nodes_of, nodes_of_all, nodes_of_unit};
-ghost use Rattle.vital_nodes.specs.declared.unit.Unit.TheVariants as units;
 ghost use Rattle.vital_walk.specs.Seen.{seen};
 
 use crate::node::Node;
 use crate::put::reverse_from;
-use crate::unit_parts::{put_parts, put_parts_of_arch, put_parts_of_entity, put_parts_of_unit};
+use crate::unit_parts::{put_parts, put_parts_of_unit};
 use std::alloc::{AllocError, Global};
-use vital_nodes::{Arch, Entity, Unit, walked_in_preorder};
+use vital_nodes::{Unit, walked_in_preorder};
 
 /// Puts the parts of a node at the end, the last of them first.
 fn put_parts_reversed<'a>(waiting: &mut Vec<Node<'a>>, node: Node<'a>) -> Result<(), AllocError>
@@ -45,24 +44,6 @@ pub fn nodes<'a>(alloc: Global, unit: &'a Unit) -> Result<Vec<Node<'a>>, AllocEr
 {
     let mut parts = Vec::new(alloc);
     put_parts_of_unit(&mut parts, unit)?;
-    nodes_of_all(alloc, parts)
-}
-
-/// All nodes of an entity, in the same way.
-pub fn nodes_of_entity<'a>(alloc: Global, entity: &'a Entity) -> Result<Vec<Node<'a>>, AllocError>
-    ensures { IfOk result (λ nodes. map seen nodes.items ≡ nodes_of_unit (units.Entity entity.now)) }
-{
-    let mut parts = Vec::new(alloc);
-    put_parts_of_entity(&mut parts, entity)?;
-    nodes_of_all(alloc, parts)
-}
-
-/// All nodes of an architecture, in the same way.
-pub fn nodes_of_arch<'a>(alloc: Global, arch: &'a Arch) -> Result<Vec<Node<'a>>, AllocError>
-    ensures { IfOk result (λ nodes. map seen nodes.items ≡ nodes_of_unit (units.Arch arch.now)) }
-{
-    let mut parts = Vec::new(alloc);
-    put_parts_of_arch(&mut parts, arch)?;
     nodes_of_all(alloc, parts)
 }
 
