@@ -16,8 +16,6 @@ mod ports;
 mod shelf;
 mod sink;
 mod std_sink;
-#[cfg(test)]
-mod tests;
 mod time;
 mod write;
 

@@ -18,6 +18,3 @@ pub use lexer::{lex_vhdl, one_outcome, tokens_rise};
 pub use text_position::{TextPosition, line_column};
 pub use token_list::{Token, Tokens};
 pub use words::reserved_words_in_order;
-
-#[cfg(test)]
-mod tests;

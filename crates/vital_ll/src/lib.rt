@@ -24,6 +24,3 @@ pub use grammar::{Alternative, Rule, RuleList, Sym};
 pub use laws::{masks_decide, masks_hold, one_reading, ranks_derive};
 pub use prediction::{Rules, RulesError};
 pub use reading::{ParseError, parse};
-
-#[cfg(test)]
-mod tests;

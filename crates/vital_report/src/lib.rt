@@ -8,8 +8,6 @@ mod long_line;
 mod printer;
 mod reporter;
 mod said;
-#[cfg(test)]
-mod tests;
 mod value;
 
 pub use line::{LexicalWhy, LibraryWhy, Limit, Line, Position, StimulusWhy, UsageWhy};

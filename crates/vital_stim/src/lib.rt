@@ -17,6 +17,3 @@ mod stimuli;
 pub use fault::{StimError, StimFault, StimWhy};
 pub use reading::read_stim;
 pub use stimuli::{StimLine, Stimuli};
-
-#[cfg(test)]
-mod tests;

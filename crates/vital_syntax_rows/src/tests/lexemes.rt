@@ -3,10 +3,13 @@ ghost use Rattle.vital_lex.specs.Bytes.{is_blank, is_graphic, is_letter, lower_c
 ghost use Rattle.vital_lex.specs.Forms.{word_kind, is_basic_identifier, is_character_literal, is_extended_identifier, is_number, is_separator, is_string_literal};
 ghost use Rattle.vital_lex.specs.Places.{line_of, column_of};
 
-use super::*;
 use std::alloc::{AllocError, Global};
 use std::process::Abort;
 use std::test::Fail;
+use vital_lex::{
+    Kind, LexError, TextFault, TextPosition, Token, Tokens, Why, lex_vhdl, line_column,
+    one_outcome, reserved_words_in_order,
+};
 
 type Row = (Kind, u32, u32);
 
@@ -152,7 +155,7 @@ static FAULTS: [(&[u8], u32, Why); 16] = [
 ];
 
 // What the definitions say of some rows.
-#[tactic(auto, unfolding(crate::specs::Forms::word_kind))]
+#[tactic(auto, unfolding(vital_lex::specs::Forms::word_kind))]
 fn definitions_on_rows()
     ensures identifiers { map is_basic_identifier (codes "a_b1" ∷ codes "a__b" ∷ codes "_a" ∷ codes "a_" ∷ codes "1a" ∷ [])
         ≡ true ∷ false ∷ false ∷ false ∷ false ∷ [] }

@@ -1,7 +1,7 @@
 use Rattle.std.proofs.Common.{refl, sym, subst}
 use Rattle.vital_ll.specs.Choice.{IsWellFormed, IsFirstConflict}
 use Rattle.vital_ll.specs.Example.{example, example_masks, example_ranks}
-use Rattle.vital_ll.proofs.tests.example_rules.Goals as goal
+use Rattle.vital_syntax_rows.proofs.tests.grammars.example_rules.Goals as goal
 
 pub make-requires : goal.make-requires
 make-requires c = subst (λ g. IsWellFormed g) (sym c.in_ok-grammar.ensures) (c.ranks_derive.ensures example example_ranks refl)

@@ -1,12 +1,12 @@
 ghost use Rattle.std.specs.Prelude.{◌≤◌};
 
-use crate::{
-    Bytes, FileShelf, List, LoadError, MemFile, MemShelf, MemSink, Name, Shelf, Sink, StdSink,
-    TimeUnit, Word, WriteFault, read_file, read_number, write_all,
-};
 use std::alloc::{AllocError, Global};
 use std::process::Abort;
 use std::test::Fail;
+use vital_base::{
+    Bytes, FileShelf, List, LoadError, MemFile, MemShelf, MemSink, Name, Shelf, Sink, StdSink,
+    TimeUnit, Word, WriteFault, read_file, read_number, write_all,
+};
 
 #[test]
 fn times_have_their_femtoseconds(rt: HostRuntime) {

@@ -1,6 +1,6 @@
 use Rattle.std.proofs.Common.{◌≡◌, false, true, ◌&&◌, ltb, get_or, arith}
 use Rattle.std.proofs.lemmas.Bool.{le-ltb, and_left, and_right}
-use Rattle.vital_ll.proofs.tests.hidden_recursion_has_no_lead_ranks.Goals as goal
+use Rattle.vital_syntax_rows.proofs.tests.grammars.hidden_recursion_has_no_lead_ranks.Goals as goal
 
 -- no rank is below itself
 pub returns : goal.returns

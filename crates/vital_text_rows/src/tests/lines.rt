@@ -1,10 +1,10 @@
-use crate::{
-    LexicalWhy, LibraryWhy, Limit, Line, Position, Printer, Reporter, StimulusWhy, UsageWhy,
-};
 use std::alloc::{AllocError, Global};
 use std::test::Fail;
 use vital_base::{Clause, List, MemSink, Name, Sink, WriteFault};
 use vital_logic::Level;
+use vital_report::{
+    LexicalWhy, LibraryWhy, Limit, Line, Position, Printer, Reporter, StimulusWhy, UsageWhy,
+};
 
 const USAGE: [(u64, UsageWhy, &str); 5] = [
     (1, UsageWhy::Command, "refused usage 1 command\n"),

@@ -1,10 +1,10 @@
 ghost use Rattle.std.specs.Prelude.{◌≤◌, ◌<◌, ◌^◌, length, IfSome};
 
-use crate::{StimError, Stimuli, read_stim};
 use std::alloc::{AllocError, Global};
 use std::test::Fail;
 use vital_base::{List, Name, PortBit, Ports};
 use vital_logic::to_byte;
+use vital_stim::{StimError, Stimuli, read_stim};
 
 /// Texts, and what they say: the ports with their first levels, and `time port level` for each line; or the line and
 /// the test that it fails.

@@ -4,9 +4,12 @@ ghost use Rattle.vital_ll.specs.Leads.{has_no_left_recursion};
 ghost use Rattle.vital_ll.specs.Readings.{IsReading};
 ghost use Rattle.vital_ll.specs.Example.{example, undecided, hidden_recursion, hidden_masks};
 
-use super::*;
 use std::alloc::{AllocError, Global};
 use std::test::Fail;
+use vital_ll::{
+    Alternative, ParseError, Rule, RuleList, Rules, RulesError, Step, Sym, Tree, masks_decide,
+    one_reading, parse, ranks_derive,
+};
 
 /// file = { line } ; line = name [ "=" name ] ";" with name, "=" and ";" as tokens 0, 1 and 2.
 fn example(alloc: Global) -> Result<RuleList, AllocError>
