@@ -1,6 +1,6 @@
 //! The check of periods and pulse widths.
 
-ghost use Rattle.std.specs.Prelude.{◌≡◌};
+ghost use Rattle.std.specs.Prelude.{◌≡◌, ◌≤◌, ℕ};
 ghost use Rattle.std.specs.Option.{option_or};
 ghost use Rattle.vital_timing_checks.specs.PeriodPulses.{NoneAbove, noted, period_found, period_pulse_step, pulse_found, unused};
 
@@ -25,7 +25,8 @@ pub struct PeriodPulse {
 impl PeriodPulse {
     /// The check before its first call: nothing is stored and no time is known.
     pub fn new() -> PeriodPulse
-        ensures { result ≡ unused }
+        ensures unused { result ≡ unused }
+        ensures times { (now : ℕ) → NoneAbove now result }
     {
         PeriodPulse {
             level: None,
@@ -39,6 +40,7 @@ impl PeriodPulse {
     /// finds nothing, the end of a pulse at 0 or at 1 has its width tested against the limit for such pulses. None exactly where no
     /// time that is tested is below its limit. The first call only stores the level; a call that isn't enabled keeps what an enabled
     /// one keeps (IEEE 1076.4, VitalPeriodPulseCheck).
+    #[tactic(auto, using(crate::proofs::Times::time_later))]
     pub fn check(
         &mut self,
         now: Time,
@@ -49,7 +51,7 @@ impl PeriodPulse {
         requires { NoneAbove now self.old }
         ensures kept { self.new ≡ (period_pulse_step self.old now test limits.now enabled).0 }
         ensures found { result ≡ (period_pulse_step self.old now test limits.now enabled).1 }
-        ensures times { NoneAbove now self.new }
+        ensures times { (later : ℕ) → now ≤ later → NoneAbove later self.new }
     {
         let new = to_x01(test);
         let Some(old) = self.level else {

@@ -1,6 +1,6 @@
 //! The check of recovery and removal.
 
-ghost use Rattle.std.specs.Prelude.{◌≡◌};
+ghost use Rattle.std.specs.Prelude.{◌≡◌, ◌≤◌, ℕ};
 ghost use Rattle.vital_timing_checks.specs.RecRems.{NoneAbove, rec_rem_step, rec_rem_tests, unused};
 
 use crate::limits::RecoveryLimits;
@@ -41,7 +41,8 @@ fn tests(limits: &RecoveryLimits, test: Level) -> EventTests
 impl RecRem {
     /// The check before its first call: nothing is stored and no time is known.
     pub fn new() -> RecRem
-        ensures { result ≡ unused }
+        ensures unused { result ≡ unused }
+        ensures times { (now : ℕ) → NoneAbove now result }
     {
         RecRem {
             kept: TimingData::unused(),
@@ -66,7 +67,7 @@ impl RecRem {
         requires { NoneAbove now self.old }
         ensures kept { self.new ≡ (rec_rem_step self.old now test reference edges limits.now enabled).0 }
         ensures found { result ≡ (rec_rem_step self.old now test reference edges limits.now enabled).1 }
-        ensures times { NoneAbove now self.new }
+        ensures times { (later : ℕ) → now ≤ later → NoneAbove later self.new }
     {
         let tests = tests(limits, test);
         let (kept, found) = self.kept.step(now, test, reference, edges, tests, enabled);

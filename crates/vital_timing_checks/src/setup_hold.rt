@@ -1,6 +1,6 @@
 //! The check of setup and hold.
 
-ghost use Rattle.std.specs.Prelude.{◌≡◌};
+ghost use Rattle.std.specs.Prelude.{◌≡◌, ◌≤◌, ℕ};
 ghost use Rattle.vital_timing_checks.specs.SetupHolds.{NoneAbove, setup_hold_step, setup_hold_tests, unused};
 
 use crate::limits::SetupLimits;
@@ -36,7 +36,8 @@ fn tests(limits: &SetupLimits, test: Level) -> EventTests
 impl SetupHold {
     /// The check before its first call: nothing is stored and no time is known.
     pub fn new() -> SetupHold
-        ensures { result ≡ unused }
+        ensures unused { result ≡ unused }
+        ensures times { (now : ℕ) → NoneAbove now result }
     {
         SetupHold {
             kept: TimingData::unused(),
@@ -60,7 +61,7 @@ impl SetupHold {
         requires { NoneAbove now self.old }
         ensures kept { self.new ≡ (setup_hold_step self.old now test reference edges limits.now enabled).0 }
         ensures found { result ≡ (setup_hold_step self.old now test reference edges limits.now enabled).1 }
-        ensures times { NoneAbove now self.new }
+        ensures times { (later : ℕ) → now ≤ later → NoneAbove later self.new }
     {
         let tests = tests(limits, test);
         let (kept, found) = self.kept.step(now, test, reference, edges, tests, enabled);

@@ -171,7 +171,7 @@ impl TimingData {
     ) -> (TimingData, Option<Violated>)
         requires { NoneAbove now self }
         ensures step { result ≡ timing_step self now test reference edges tests enabled }
-        ensures times { NoneAbove now result.0 }
+        ensures times { (later : ℕ) → now ≤ later → NoneAbove later result.0 }
     {
         let event = is_test_event(self.levels, test);
         let edge = is_reference_edge(self.levels, reference, edges);
