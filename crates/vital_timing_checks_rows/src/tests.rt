@@ -1,0 +1,4 @@
+mod edges;
+mod period_pulse;
+mod rec_rem;
+mod setup_hold;
