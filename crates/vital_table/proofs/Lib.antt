@@ -1,0 +1,3 @@
+pub mod RowMasks
+pub mod ColumnLemmas
+pub mod Matching

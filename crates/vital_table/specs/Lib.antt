@@ -1,0 +1,5 @@
+pub mod Symbols
+pub mod Tables
+pub mod Matches
+pub mod Results
+pub mod Masks
