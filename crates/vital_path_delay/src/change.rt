@@ -18,7 +18,7 @@ macro_rules! entry {
     };
 }
 
-/// The time that a change from an old level to a new one takes, in femtoseconds (VitalCalcDelay).
+/// The time that a change from an old level to a new one takes, in femtoseconds (IEEE 1076.4, VitalCalcDelay).
 pub fn calc_delay(new: Level, old: Level, delay: &Delay) -> Time
     ensures time { result ≡ calc_delay new old delay.now }
     ensures within { (limit : ℕ) → IsWithin limit delay.now → result ≤ limit }

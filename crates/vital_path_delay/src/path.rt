@@ -20,8 +20,8 @@ pub struct Path {
 }
 
 /// The delay of a change of the output, in femtoseconds from now on. Of the paths that are enabled those count whose input changed
-/// last; it is what is left of the least of their delays. Where nothing of it is left, and where no path is enabled, it is the delay
-/// of the default.
+/// last: it is what their age leaves of the least of their delays. Where the age is greater than that, and where no path is enabled,
+/// it is the delay of the default. It stays within each limit within which all these delays do.
 pub fn select(paths: &[Path], new: Level, old: Level, default: &Delay) -> Time
     ensures delay { result ≡ select paths.now new old default.now }
     ensures within { (limit : ℕ) → All (λ path. IsWithin limit path.delay) paths.now → IsWithin limit default.now → result ≤ limit }
