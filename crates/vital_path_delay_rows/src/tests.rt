@@ -1,0 +1,4 @@
+mod calls;
+mod changes;
+mod paths;
+mod scheduling;
