@@ -27,12 +27,14 @@ process_as_read outer p before x sound =
       behind = each_before before x.each sound;
       together = x.together;
       names_in_order = each_in_order x.names (sound_left (each_passed x.each) left);
+      names_behind = each_before (each_joined before x.each) x.names sound;
     }
 
 arch_as_read : {o : Source} {ts : List Token} (a : Arch) → ArchAlong o ts a → AreSound o ts → IsArchAsRead (Some a)
 arch_as_read a x sound = record {
   named = each_named x.declarations.each sound;
   in_order = each_in_order x.declarations.each sound;
+  all_in_order = each_in_order (each_joined x.declarations.each x.declared) sound;
   together = x.declarations.together;
   processes = λ k p inside. process_as_read (declared_in a.declarations) _ x.declarations.each (x.processes k p inside) sound;
 }
@@ -40,7 +42,7 @@ arch_as_read a x sound = record {
 unit_as_read : (o : Source) (ts : List Token) (x : Unit') → UnitAlong o ts x → AreSound o ts → IsUnitAsRead x
 unit_as_read o ts (u.Entity e) x sound = entity_as_read e x sound
 unit_as_read o ts (u.Arch a) x sound = arch_as_read a x sound
-unit_as_read o ts (u.Pack p) x sound = tt
+unit_as_read o ts (u.Pack p) x sound = x
 unit_as_read o ts (u.Config c) x sound = tt
 
 pub units_as_read : (o : Source) (ts : List Token) (units : List Unit') → All (UnitAlong o ts) units → AreSound o ts → All IsUnitAsRead units

@@ -1,17 +1,17 @@
 -- Readers of concurrent statements give processes whose declarations stand along the tokens.
 use Rattle.std.proofs.Common.{ℕ, zero, suc, ◌==◌, if◌then◌else◌, List, [], ◌∷◌, ◌++◌, Option, Some, None, All, refl, sym, subst}
-use Rattle.std.specs.List.{cons_option, filter_map}
+use Rattle.std.specs.List.{cons_option, filter_map, flat_map}
 use Rattle.std.proofs.lemmas.List.Elements.{All-append, All-cons, All-nil}
 use Rattle.vital_base.specs.declared.place.Place.{Place}
 use Rattle.vital_grammar.specs.RuleNumbers as s
 use Rattle.vital_lex.specs.declared.kinds.Kind.TheVariants as kind
 use Rattle.vital_lex.specs.declared.token_list.Token.{Token}
-use Rattle.vital_names.specs.Declarations.{declared_in, identifier_of}
+use Rattle.vital_names.specs.Declarations.{Declared, declared_in, identifier_of}
 use Rattle.vital_nodes.specs.Nodes as nodes
 use Rattle.vital_nodes.specs.Places.{place_of}
 use Rattle.vital_nodes.specs.declared.identifier.Identifier.{Identifier}
 use Rattle.vital_nodes.specs.declared.expr.Reference.{Reference, roll-Reference}
-use Rattle.vital_nodes.specs.declared.stmt.Block.{roll-Block}
+use Rattle.vital_nodes.specs.declared.stmt.Block.{Block, roll-Block}
 use Rattle.vital_nodes.specs.declared.stmt.Conc.{Conc}
 use Rattle.vital_nodes.specs.declared.stmt.Conc.TheOpen.{Conc-F}
 use Rattle.vital_nodes.specs.declared.stmt.Conc.TheVariants as c
@@ -29,17 +29,18 @@ use Rattle.vital_shapes.proofs.Rules as rules
 use Rattle.vital_shapes.proofs.Statements.{signal_assignment_takes}
 use Rattle.vital_shapes.proofs.Steps.{◌&◌, choose, step, none_left, told_left, placed, token_first}
 use Rattle.vital_shapes.proofs.Takes.{Takes, followed, passed, gives}
+use Rattle.vital_uses.specs.Nodes.{declarations_in}
 use Rattle.vital_uses.specs.Statements.{process as process_of, process_in}
 use Rattle.vital_walk.specs.Statements.{in_conc_layer}
 use Rattle.vital_walk.proofs.Values.{WalkLaw}
-use Rattle.vital_as_read.specs.AsRead.{AreTogether, names_among}
+use Rattle.vital_as_read.specs.AsRead.{AreTogether, declared_by_statement, names_among}
 use Rattle.vital_as_read.proofs.Declarations.{declarations_along}
-use Rattle.vital_as_read.proofs.Each.{Each, each_led, each_passed}
+use Rattle.vital_as_read.proofs.Each.{Each, each_ended, each_joined, each_led, each_passed, ends, none_each}
 use Rattle.vital_as_read.proofs.Identifiers.{IsFirst, identifier_is, one_each, stands_first}
 use Rattle.vital_as_read.proofs.NamesAlong.{names_along}
 use Rattle.vital_as_read.proofs.StatementsRead.{statements_take}
 use Rattle.vital_as_read.proofs.Strictly.{passing as statements_passed}
-use Rattle.vital_as_read.proofs.Processes.{processes_in, processes-append, processes-one}
+use Rattle.vital_as_read.proofs.Processes.{declared_within, declared-append, declared-one, processes_in, processes-append, processes-one}
 use denote.Hole.Carrier.{roll}
 
 -- a process of which what it declares is declared along the tokens, and the names in its statements stand along those behind it
@@ -56,22 +57,27 @@ process_led a p = record { rest = p.rest; each = each_led a p.each; together = p
 pub processes_led : {o : Source} {ts us : List Token} (ps : List Process) → Along o ts [] us → All (ProcessAlong o us) ps → All (ProcessAlong o ts) ps
 processes_led ps a all = λ k d inside. process_led a (all k d inside)
 
--- statements of which each process is such a one
+-- statements of which each process is such a one, and what they declare is declared along the tokens
 pub record StatementsAlong (o : Source) (ts : List Token) (found : List Conc) (us : List Token) : Type 0 where
-  pub passed : Along o ts [] us
+  pub declared : Each o identifier_of ts (declared_within found) us
   pub processes : All (ProcessAlong o ts) (processes_in found)
 
 statements_joined : {o : Source} (ts us ws : List Token) (xs ys : List Conc) → StatementsAlong o ts xs us → StatementsAlong o us ys ws → StatementsAlong o ts (xs ++ ys) ws
 statements_joined {o} ts us ws xs ys a b = record {
-  passed = led a.passed b.passed;
+  declared = subst (λ (ds : List Declared). Each o identifier_of ts ds ws) (sym (declared-append xs ys)) (each_joined a.declared b.declared);
   processes = subst (λ (ps : List Process). All (ProcessAlong o ts) ps) (sym (processes-append xs ys))
-      (All-append (ProcessAlong o ts) (processes_in xs) (processes_in ys) a.processes (processes_led (processes_in ys) a.passed b.processes));
+      (All-append (ProcessAlong o ts) (processes_in xs) (processes_in ys) a.processes (processes_led (processes_in ys) (each_passed a.declared) b.processes));
 }
+
+-- a block, and what it and the statements in it declare
+record BlockAlong (o : Source) (ts : List Token) (b : Block) (us : List Token) : Type 0 where
+  declared : Each o identifier_of ts (declared_in b.declarations ++ declared_within b.statements) us
+  processes : All (ProcessAlong o ts) (processes_in b.statements)
 
 -- a process that is read, with the tokens behind it
 record ProcessRead (o : Source) (ts : List Token) (p : Process) (us : List Token) : Type 0 where
   read : ProcessAlong o ts p
-  passed : Along o ts [] us
+  declared : Each o identifier_of ts (declared_in p.declarations) us
 
 process_along : WalkLaw → {o : Source} {n : ℕ} {ts : List Token} → Takes o n (s.process ∷ []) ts process (ProcessRead o ts)
 unfolding process
@@ -80,18 +86,21 @@ process_along walked = step 40 rules.process_is (token_first (λ qs a. followed 
     passed closing_takes (λ _ ls q. token_first (λ ms r. gives (record { sensitivity = signals; declarations = declared; statements = found })
     (let before = led a (led (passing b) f) in record {
       read = record { rest = ds; each = each_led before g.each; together = g.together; behind = gs; names = each_led h (names_along walked k) };
-      passed = led before (led (each_passed g.each) (led h (led (statements_passed k) (led l (led m (led q r))))));
+      declared = each_led before (each_ended g.each (led h (led (statements_passed k) (led l (led m (led q r))))));
     }))))))))))))
 
 module _ (walked : WalkLaw) where
   -- what is made of one layer: a process that is such a one, or none, and those in a block
-  made : {o : Source} {ts us : List Token} (l : ConcLayer) → All (ProcessAlong o ts) (cons_option (process_in l) (filter_map process_of (in_conc_layer l))) → Along o ts [] us →
-      StatementsAlong o ts (roll-Conc l ∷ []) us
-  made {o} {ts} l all a = record { passed = a; processes = subst (λ (ps : List Process). All (ProcessAlong o ts) ps) (sym (processes-one walked l)) all }
+  made : {o : Source} {ts us : List Token} (l : ConcLayer) → All (ProcessAlong o ts) (cons_option (process_in l) (filter_map process_of (in_conc_layer l))) →
+      Each o identifier_of ts (declared_in (declarations_in l) ++ flat_map declared_by_statement (in_conc_layer l)) us → StatementsAlong o ts (roll-Conc l ∷ []) us
+  made {o} {ts} {us} l all each = record {
+    declared = subst (λ (ds : List Declared). Each o identifier_of ts ds us) (sym (declared-one walked l)) each;
+    processes = subst (λ (ps : List Process). All (ProcessAlong o ts) ps) (sym (processes-one walked l)) all;
+  }
 
   one_process : {o : Source} {ts us ws : List Token} (at : Place) (label : Option Identifier) (p : Process) → Along o ts [] us → ProcessRead o us p ws →
       StatementsAlong o ts (roll-Conc (Conc-F.Process at label p) ∷ []) ws
-  one_process {o} {ts} at label p a x = made (Conc-F.Process at label p) (All-cons (ProcessAlong o ts) p [] (process_led a x.read) (All-nil _)) (led a x.passed)
+  one_process {o} {ts} at label p a x = made (Conc-F.Process at label p) (All-cons (ProcessAlong o ts) p [] (process_led a x.read) (All-nil _)) (each_led a (each_joined x.declared ends))
 
   after_target_along : {o : Source} {n : ℕ} {ts us : List Token} (p : Place) (target : Reference) → Whole o ts (nodes.Name target) us →
       Takes o n (s.conc_end ∷ []) us (after_target p target) (λ x ws. StatementsAlong o ts (x ∷ []) ws)
@@ -99,8 +108,8 @@ module _ (walked : WalkLaw) where
   after_target_along p target w = choose 34
       (λ form. if form == 0 then (skip >> pure (c.Call p target)) else (signal_assignment target >>= λ x. pure (c.SignalAssignment p x)))
       rules.conc_end_is
-      (token_first (λ us a. gives (c.Call p target) (made (Conc-F.Call p target) (All-nil _) (led (passing w.inside) a)))
-      & followed (signal_assignment_takes target w) (λ x us a. gives (c.SignalAssignment p x) (made (Conc-F.SignalAssignment p x) (All-nil _) (passing a)))
+      (token_first (λ us a. gives (c.Call p target) (made (Conc-F.Call p target) (All-nil _) (none_each (led (passing w.inside) a))))
+      & followed (signal_assignment_takes target w) (λ x us a. gives (c.SignalAssignment p x) (made (Conc-F.SignalAssignment p x) (All-nil _) (none_each (passing a))))
       & tt)
 
   unlabelled_along : {o : Source} {n : ℕ} {ts us : List Token} (p : Place) (first : Identifier) → IsFirst o ts first us →
@@ -112,12 +121,14 @@ module _ (walked : WalkLaw) where
   module _ (o : Source) (n : ℕ) (inner : Reader (List Conc)) (inner_along : (ts : List Token) → Takes o n (s.concs ∷ []) ts inner (StatementsAlong o ts)) where
     block_along : {ts : List Token} →
         Takes o n (s.word kind.Block ∷ s.optional_is ∷ s.decls ∷ s.word kind.Begin ∷ s.concs ∷ s.word kind.End ∷ s.word kind.Block ∷ s.optional_id ∷ s.word kind.Semicolon ∷ []) ts (block inner)
-        (λ x us. StatementsAlong o ts x.statements us)
+        (BlockAlong o ts)
     unfolding block
     block_along = token_first (λ qs a. passed (written_takes 30 rules.optional_is_is) (λ _ bs b. followed declarations_along (λ declared ds f. token_first (λ fs g.
         followed (inner_along fs) (λ found gs h. token_first (λ hs k. token_first (λ ks l. passed closing_takes (λ _ ls m. token_first (λ ms q.
-        gives (roll-Block (record { declarations = declared; statements = found })) (let before = led a (led b (led (each_passed f.each) g)) in
-        record { passed = led before (led h.passed (led k (led l (led m q)))); processes = processes_led (processes_in found) before h.processes }))))))))))
+        gives (roll-Block (record { declarations = declared; statements = found })) (record {
+          declared = each_led (led a b) (each_joined f.each (each_led g (each_ended h.declared (led k (led l (led m q))))));
+          processes = processes_led (processes_in found) (led a (led b (led (each_passed f.each) g))) h.processes;
+        }))))))))))
 
     labelled_along : {ts us : List Token} (p : Place) (label : Identifier) → Along o ts [] us → Takes o n (s.labelled ∷ []) us (labelled inner p label) (λ x ws. StatementsAlong o ts (x ∷ []) ws)
     unfolding labelled roll-Conc roll
@@ -127,10 +138,10 @@ module _ (walked : WalkLaw) where
         rules.labelled_is
         (followed (process_along walked) (λ y us a. gives (c.Process p (Some label) y) (one_process p (Some label) y x a))
         & token_first (λ us a. followed (instance_takes label) (λ y ws b. gives (c.ComponentInstance p y)
-        (made (Conc-F.ComponentInstance p y) (All-nil _) (led x (led a (passing b))))))
-        & followed (instance_takes label) (λ y us a. gives (c.Instance p y) (made (Conc-F.Instance p y) (All-nil _) (led x (passing a))))
+        (made (Conc-F.ComponentInstance p y) (All-nil _) (none_each (led x (led a (passing b)))))))
+        & followed (instance_takes label) (λ y us a. gives (c.Instance p y) (made (Conc-F.Instance p y) (All-nil _) (none_each (led x (passing a)))))
         & followed block_along (λ y us a. gives (c.Block p label y)
-        (made (Conc-F.Block p label y) (processes_led (processes_in y.statements) x a.processes) (led x a.passed)))
+        (made (Conc-F.Block p label y) (processes_led (processes_in y.statements) x a.processes) (each_led x a.declared)))
         & tt)
 
     after_identifier_along : {ts : List Token} (p : Place) → Takes o n (s.id ∷ s.conc_rest ∷ []) ts (after_identifier inner p) (λ x us. StatementsAlong o ts (x ∷ []) us)
@@ -152,7 +163,7 @@ module _ (walked : WalkLaw) where
         & tt)
 
     concs_down : {ts : List Token} → Takes o (suc n) (s.concs ∷ []) ts (many (λ _. conc inner)) (StatementsAlong o ts)
-    concs_down = lists_down 31 _ _ (StatementsAlong o) statements_joined (record { passed = stay; processes = All-nil _ }) rules.concs_is (single (λ ts. conc_along) & tt)
+    concs_down = lists_down 31 _ _ (StatementsAlong o) statements_joined (record { declared = ends; processes = All-nil _ }) rules.concs_is (single (λ ts. conc_along) & tt)
 
   concs_within_along : (o : Source) (n : ℕ) (ts : List Token) → Takes o n (s.concs ∷ []) ts (concs_within n) (StatementsAlong o ts)
   unfolding concs_within

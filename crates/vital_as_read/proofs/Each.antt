@@ -92,11 +92,11 @@ module _ {o : Source} {A : Type 0} {of : A → Identifier} where
       (each_holds (Precedes o t) (λ w. is_before (of v).place (of w).place ≡ true) (λ u w y before. behind o t u (of v) (of w) x y before) a sound.1)
       (each_in_order a sound.2)
 
-  -- each stands before each of those that are read behind it
-  pub each_before : {ts us ws : List Token} {vs xs : List A} → Each o of ts vs us → Each o of us xs ws → AreSound o ts →
-      All (λ v. All (λ w. is_before (of v).place (of w).place ≡ true) xs) vs
-  each_before ends b sound = All-nil _
-  each_before (over a) b sound = each_before a b sound.2
-  each_before {xs = xs} (here {t = t} {v = v} {vs = vs} x a) b sound = All-cons (λ y. All (λ w. is_before (of y).place (of w).place ≡ true) xs) v vs
-      (each_holds (Precedes o t) (λ w. is_before (of v).place (of w).place ≡ true) (λ u w y before. behind o t u (of v) (of w) x y before) b (all_left (Precedes o t) (each_passed a) sound.1))
-      (each_before a b sound.2)
+-- each stands before each of those that are read behind it
+pub each_before : {o : Source} {A B : Type 0} {of : A → Identifier} {named : B → Identifier} {ts us ws : List Token} {vs : List A} {xs : List B} →
+    Each o of ts vs us → Each o named us xs ws → AreSound o ts → All (λ v. All (λ w. is_before (of v).place (named w).place ≡ true) xs) vs
+each_before ends b sound = All-nil _
+each_before (over a) b sound = each_before a b sound.2
+each_before {o} {of = of} {named = named} {xs = xs} (here {t = t} {v = v} {vs = vs} x a) b sound = All-cons (λ y. All (λ w. is_before (of y).place (named w).place ≡ true) xs) v vs
+    (each_holds (Precedes o t) (λ w. is_before (of v).place (named w).place ≡ true) (λ u w y before. behind o t u (of v) (named w) x y before) b (all_left (Precedes o t) (each_passed a) sound.1))
+    (each_before a b sound.2)

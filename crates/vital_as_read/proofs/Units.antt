@@ -9,6 +9,7 @@ use Rattle.vital_ll.specs.declared.derivation.Step.{Step}
 use Rattle.vital_ll.specs.declared.grammar.Sym.TheVariants.{Token as Word, Rule}
 use Rattle.vital_lex.specs.declared.kinds.Kind.TheVariants as kind
 use Rattle.vital_lex.specs.declared.token_list.Token.{Token}
+use Rattle.vital_names.specs.Declarations.{identifier_of}
 use Rattle.vital_nodes.specs.declared.unit.Arch.{Arch}
 use Rattle.vital_nodes.specs.declared.unit.Entity.{Entity}
 use Rattle.vital_nodes.specs.declared.unit.Unit.{Unit as Unit'}
@@ -26,11 +27,12 @@ use Rattle.vital_shapes.proofs.Steps.{◌&◌, step, placed, skipped, token_firs
 use Rattle.vital_shapes.proofs.Takes.{Takes, followed, passed, gives, claiming}
 use Rattle.vital_shapes.proofs.Units.{entity_statements_take}
 use Rattle.vital_walk.proofs.Values.{WalkLaw}
+use Rattle.vital_as_read.specs.AsRead.{AreTogether}
 use Rattle.vital_as_read.proofs.Concurrent.{ProcessAlong, concs_along, processes_led}
 use Rattle.vital_as_read.proofs.Declarations.{DeclarationsAlong, InterfacesAlong, declarations_along, interfaces_along}
-use Rattle.vital_as_read.proofs.Each.{each_led, each_passed}
+use Rattle.vital_as_read.proofs.Each.{Each, each_led, each_passed}
 use Rattle.vital_as_read.proofs.Identifiers.{identifier_is, one_each}
-use Rattle.vital_as_read.proofs.Processes.{processes_in}
+use Rattle.vital_as_read.proofs.Processes.{declared_within, processes_in}
 
 -- an entity whose generics and then ports are declared along the tokens
 pub record EntityAlong (o : Source) (ts : List Token) (e : Entity) : Type 0 where
@@ -39,23 +41,31 @@ pub record EntityAlong (o : Source) (ts : List Token) (e : Entity) : Type 0 wher
   pub generics : InterfacesAlong o ts e.generics middle
   pub ports : InterfacesAlong o middle e.ports rest
 
--- an architecture whose declarations are declared along the tokens, and what its processes declare behind that
+-- an architecture whose declarations are declared along the tokens, and what its blocks and processes declare behind that
 pub record ArchAlong (o : Source) (ts : List Token) (a : Arch) : Type 0 where
   pub rest : List Token
   pub declarations : DeclarationsAlong o ts a.declarations rest
+  pub behind : List Token
+  pub declared : Each o identifier_of rest (declared_within a.statements) behind
   pub processes : All (ProcessAlong o rest) (processes_in a.statements)
 
 abbrev pub UnitAlong : Source → List Token → Unit' → Type 0
 UnitAlong o ts (u.Entity e) = EntityAlong o ts e
 UnitAlong o ts (u.Arch a) = ArchAlong o ts a
-UnitAlong o ts (u.Pack p) = Unit {0}
+UnitAlong o ts (u.Pack p) = AreTogether p.declarations
 UnitAlong o ts (u.Config c) = Unit {0}
 
 unit_led : {o : Source} {ts us : List Token} (x : Unit') → Along o ts [] us → UnitAlong o us x → UnitAlong o ts x
 unit_led (u.Entity e) a x =
     record { middle = x.middle; rest = x.rest; generics = record { each = each_led a x.generics.each; together = x.generics.together }; ports = x.ports }
-unit_led (u.Arch b) a x = record { rest = x.rest; declarations = record { each = each_led a x.declarations.each; together = x.declarations.together }; processes = x.processes }
-unit_led (u.Pack p) a x = tt
+unit_led (u.Arch b) a x = record {
+  rest = x.rest;
+  declarations = record { each = each_led a x.declarations.each; together = x.declarations.together };
+  behind = x.behind;
+  declared = x.declared;
+  processes = x.processes;
+}
+unit_led (u.Pack p) a x = x
 unit_led (u.Config c) a x = tt
 
 -- units of which each is such a one
@@ -98,15 +108,21 @@ arch_along walked = step 18 rules.arch_is (placed refl (λ p stands. token_first
     let x : Arch = record { place = p; identifier = id; entity = of_what; declarations = declared; statements = found } in
     let before = led a (led (each_passed (one_each b)) (led c (led (each_passed (one_each f)) g))) in
     gives (u.Arch x) (one_unit (u.Arch x)
-    (record { rest = gs; declarations = record { each = each_led before h.each; together = h.together }; processes = processes_led (processes_in found) k l.processes })
-    (led before (led (each_passed h.each) (led k (led l.passed m))))))))))))))))
+    (record {
+      rest = gs;
+      declarations = record { each = each_led before h.each; together = h.together };
+      behind = ks;
+      declared = each_led k l.declared;
+      processes = processes_led (processes_in found) k l.processes;
+    })
+    (led before (led (each_passed h.each) (led k (led (each_passed l.declared) m))))))))))))))))
 
 pack_along : {o : Source} {n : ℕ} {ts : List Token} → Takes o n (s.pack ∷ []) ts pack (λ x us. UnitsAlong o ts (x ∷ []) us)
 unfolding pack
-pack_along = step 20 rules.pack_is (placed refl (λ p stands. token_first (λ qs a. followed identifier_is (λ id bs b. token_first (λ cs c. followed declarations_take (λ declared ds f.
+pack_along = step 20 rules.pack_is (placed refl (λ p stands. token_first (λ qs a. followed identifier_is (λ id bs b. token_first (λ cs c. followed declarations_along (λ declared ds f.
     passed (ending_passes 21 rules.pack_word_is) (λ _ fs g.
     let x = u.Pack (record { place = p; identifier = id; declarations = declared }) in
-    gives x (one_unit x tt (led a (led (each_passed (one_each b)) (led c (led (passing f) g))))))))))))
+    gives x (one_unit x f.together (led a (led (each_passed (one_each b)) (led c (led (each_passed f.each) g))))))))))))
 
 config_along : {o : Source} {n : ℕ} {ts : List Token} → Takes o n (s.config ∷ []) ts config (λ x us. UnitsAlong o ts (x ∷ []) us)
 unfolding config
