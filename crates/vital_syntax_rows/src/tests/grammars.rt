@@ -7,7 +7,7 @@ ghost use Rattle.vital_ll.specs.Example.{example, undecided, hidden_recursion, h
 use std::alloc::{AllocError, Global};
 use std::test::Fail;
 use vital_ll::{
-    Alternative, ParseError, Rule, RuleList, Rules, RulesError, Step, Sym, Tree, masks_decide,
+    Alternative, ParseError, Rule, RuleList, Rules, RulesError, Step, Sym, masks_decide,
     one_reading, parse, ranks_derive,
 };
 
