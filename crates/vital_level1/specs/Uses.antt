@@ -1,11 +1,10 @@
 -- Tables with a symbol that a column of a call may not have: part of L1.3.
-use Rattle.std.specs.Prelude.{ℕ, Bool, false, not, ◌&&◌, ◌==◌, ◌++◌, List, Option, None, slice_get}
+use Rattle.std.specs.Prelude.{ℕ, Bool, false, ◌&&◌, ◌==◌, ◌++◌, List, Option, None, slice_get}
 use Rattle.std.specs.List.{filter_map, flat_map, list_any}
-use Rattle.std.specs.Option.{option_and_then, option_map_or}
+use Rattle.std.specs.Option.{option_map_or}
 use Rattle.vital_base.specs.declared.place.Place.{Place}
 use Rattle.vital_declaration_clauses.specs.Regions.{Region, regions}
-use Rattle.vital_declaration_clauses.specs.Scopes.{Scope, InCell, InPackage}
-use Rattle.vital_library.specs.Constants.{constants_of}
+use Rattle.vital_declaration_clauses.specs.Scopes.{InCell}
 use Rattle.vital_names.specs.Sites.{Cell, Site}
 use Rattle.vital_nodes.specs.declared.decl.Decl.{Decl}
 use Rattle.vital_nodes.specs.declared.decl.Decl.TheVariants as decl
@@ -13,8 +12,7 @@ use Rattle.vital_nodes.specs.declared.decl.Object.{Object}
 use Rattle.vital_nodes.specs.declared.unit.Units.{Units}
 use Rattle.vital_operands.specs.Faults.{is_same_place}
 use Rattle.vital_operands.specs.Named.{where_holds}
-use Rattle.vital_tables.specs.Symbols.{allows}
-use Rattle.vital_tables.specs.Tables.{rows_of}
+use Rattle.vital_package_constants.specs.Tables.{is_wrong_in, is_wrong_package}
 use Rattle.vital_typed_statements.specs.declared.table_use.TableUse.{TableUse}
 use Rattle.vital_typed_statements.specs.declared.table_use.UsedTable.{UsedTable}
 use Rattle.vital_typed_statements.specs.declared.table_use.UsedTable.TheVariants as used
@@ -23,10 +21,6 @@ use Rattle.vital_uses.specs.Sited.{Sited}
 use Rattle.vital_walk.specs.Objects.{is_constant}
 use Rattle.vital_level1.specs.declared.package_names.NamedConstant.{NamedConstant}
 use Rattle.vital_level1.specs.Packages.{places_where}
-
--- A constant whose value is no table of symbols breaks L1.3 in any case.
-abbrev pub is_wrong_in : TableUse → Scope → Object → Bool
-is_wrong_in u scope o = option_map_or (λ rows. not (allows u.kind u.inputs u.states rows)) (option_and_then (rows_of scope) o.parts.value) false
 
 -- ---- constants of the cell
 
@@ -66,9 +60,6 @@ abbrev pub wrong_use : Cell → TableUse → Option Place
 wrong_use cell u = wrong_by cell u u.table
 
 -- ---- constants of packages
-
-abbrev pub is_wrong_package : List Units → TableUse → ℕ → Bool
-is_wrong_package files u n = option_map_or (is_wrong_in u (InPackage files n)) (slice_get (constants_of files) n) false
 
 abbrev pub wrong_number : List Units → TableUse → UsedTable → Option ℕ
 wrong_number files u (used.Cell place) = None

@@ -7,7 +7,6 @@ ghost use Rattle.std.specs.Option.{option_or};
 ghost use Rattle.vital_base.specs.Places.{compare_places};
 ghost use Rattle.vital_base.specs.declared.place.Place.{Place as Place'};
 ghost use Rattle.vital_declaration_clauses.specs.Regions.{regions as regions'};
-ghost use Rattle.vital_declaration_clauses.specs.Scopes.{lent};
 ghost use Rattle.vital_level1.specs.Kept as kept;
 ghost use Rattle.vital_level1.specs.Uses as spec;
 ghost use Rattle.vital_names.specs.Sites as sites;
@@ -20,9 +19,9 @@ use std::alloc::{AllocError, Global};
 use std::collections::{BTreeMap, BTreeSet};
 use vital_base::Place;
 use vital_declaration_clauses::{Region, Scope};
-use vital_names::{CellNames, CellUnit, LibraryNames, Site};
+use vital_names::{CellNames, CellUnit, Site};
 use vital_nodes::{Decl, Object};
-use vital_tables::{Table, table_of};
+use vital_package_constants::{is_wrong_in, is_wrong_package};
 use vital_typed_declarations::{SitedDeclaration, sited_declarations};
 use vital_typed_statements::{TableUse, UsedTable};
 use vital_walk::is_constant;
@@ -114,40 +113,6 @@ fn constants_of<'a>(
         put_constants_of(alloc, &mut constants, region)?;
     }
     Ok(constants)
-}
-
-/// Whether a call makes a table wrong. A value that is no table of symbols breaks the clause in any case.
-fn is_wrong_in(
-    alloc: Global,
-    used: &TableUse,
-    scope: Scope<'_>,
-    object: &Object,
-) -> Result<bool, AllocError>
-    ensures { IfOk result (λ is_wrong. is_wrong ≡ spec.is_wrong_in used.now (lent scope.entry) object.now) }
-{
-    let table: Option<Table> = match &object.parts.get().value {
-        Some(value) => table_of(alloc, scope, value)?,
-        None => None,
-    };
-    match table {
-        Some(table) => Ok(!table.allows(used.kind, used.inputs, used.states)),
-        None => Ok(false),
-    }
-}
-
-/// Whether a call makes the constant of a package wrong that has this number.
-fn is_wrong_package(
-    alloc: Global,
-    library: &LibraryNames<'_>,
-    used: &TableUse,
-    number: usize,
-) -> Result<bool, AllocError>
-    ensures { IfOk result (λ is_wrong. is_wrong ≡ spec.is_wrong_package library.now used.now number) }
-{
-    match library.constants().get(number) {
-        Some(object) => is_wrong_in(alloc, used, Scope::Package(library, number), object),
-        None => Ok(false),
-    }
 }
 
 /// Whether a call makes the constant of a cell wrong whose identifier stands at this place.

@@ -18,6 +18,7 @@ use Rattle.vital_typed_declarations.specs.Values.{value_if_given}
 use Rattle.vital_uses.specs.Asked.{identifier_of_node}
 use Rattle.vital_package_constants.specs.declared.breaches.ConstantBreaches.{ConstantBreaches}
 use Rattle.vital_package_constants.specs.Names.{is_undeclared, is_wrong_call, nodes_of_constant}
+use Rattle.vital_package_constants.specs.Tables.{has_wrong_table}
 
 -- None is broken.
 abbrev pub no_breaches : ConstantBreaches
@@ -66,20 +67,30 @@ abbrev pub is_filled : List Place → Bool
 is_filled [] = false
 is_filled (p ∷ ps) = true
 
--- The value of the constant of a number is not of its type, where its names break other clauses at these faults.
-abbrev pub is_wrong_value : List Units → ℕ → Object → List Place → Bool
-is_wrong_value files number o faults = is_filled (value_if_given (context files number faults) (of_object o) o.parts.value).places
+-- The value of a constant is not of its type.
+abbrev pub is_wrong_value : Context → Object → Bool
+is_wrong_value c o = is_filled (value_if_given c (of_object o) o.parts.value).places
 
-abbrev pub has_wrong_value : List Units → List ConstantBreaches → Object → Bool
-has_wrong_value files known o = is_wrong_value files (length known) o (faults_in files known (nodes_of_constant o))
+-- It is no constant that Level 1 allows, or a call in it makes a table wrong.
+abbrev pub is_wrong_constant : List Units → ℕ → Context → Object → Bool
+is_wrong_constant files number c o =
+    not (is_good_constant (scopes.InPackage files number) o) || has_wrong_table files c (nodes_of_constant o)
+
+-- Its type or a name in it is undeclared.
+abbrev pub has_unknown_name : List Units → ℕ → Object → Bool
+has_unknown_name files number o = is_none (type_named o.parts.subtype.name) || list_any (is_undeclared files number) (nodes_of_constant o)
+
+-- The clauses that the constant of a number breaks itself, where its names break other clauses at these faults.
+abbrev pub own_by : List Units → ℕ → Object → List Place → ConstantBreaches
+own_by files number o faults = record {
+  clause_3 = is_wrong_constant files number (context files number faults) o;
+  clause_14 = list_any (is_wrong_call files number) (nodes_of_constant o);
+  clause_15 = is_wrong_value (context files number faults) o;
+  clause_16 = has_unknown_name files number o;
+}
 
 abbrev pub own : List Units → List ConstantBreaches → Object → ConstantBreaches
-own files known o = record {
-  clause_3 = not (is_good_constant (scopes.InPackage files (length known)) o);
-  clause_14 = list_any (is_wrong_call files (length known)) (nodes_of_constant o);
-  clause_15 = has_wrong_value files known o;
-  clause_16 = is_none (type_named o.parts.subtype.name) || list_any (is_undeclared files (length known)) (nodes_of_constant o);
-}
+own files known o = own_by files (length known) o (faults_in files known (nodes_of_constant o))
 
 -- Those of the constant that stands behind these: its own, and those of each constant that it names.
 abbrev pub next_breaches : List Units → List ConstantBreaches → Object → ConstantBreaches

@@ -2,12 +2,14 @@
 
 ghost use Rattle.std.specs.Prelude.{◌≡◌, [], ◌∷◌, ◌++◌, None, Some, if◌then◌else◌, length, map, unwrap_or, IfOk, OnOk};
 ghost use Rattle.std.specs.List.{filter_map, fold, list_any};
+ghost use Rattle.vital_expr.specs.Seen.{lent};
 ghost use Rattle.vital_limits.specs.ConstantLimits.{named_at as named_at'};
 ghost use Rattle.vital_package_constants.specs.Breaches as spec;
 ghost use Rattle.vital_package_constants.specs.Names as names;
 ghost use Rattle.vital_walk.specs.Seen.{seen};
 
 use crate::names::{is_undeclared, is_wrong_call, nodes_of_constant};
+use crate::tables::has_wrong_table;
 use std::alloc::{AllocError, Global};
 use vital_base::Place;
 use vital_declaration_clauses::{Scope, is_good_constant};
@@ -23,7 +25,7 @@ use vital_walk::Node;
 /// Which clauses a cell breaks at each name of a constant of a package.
 #[derive(Clone, Copy, Debug, PartialEq, Eq)]
 pub struct ConstantBreaches {
-    /// L1.3: it is no constant that Level 1 allows.
+    /// L1.3: it is no constant that Level 1 allows, or a call in its value makes a table wrong.
     pub clause_3: bool,
     /// L1.14: a call in it has wrong items.
     pub clause_14: bool,
@@ -140,45 +142,40 @@ fn faults_in(
     Ok(places)
 }
 
-/// Whether the value of a constant is not of its type, where its names break other clauses at these faults.
+/// Whether the value of a constant is not of its type.
 fn is_wrong_value(
-    alloc: Global,
+    reader: &Reader<'_>,
     library: &LibraryNames<'_>,
-    number: usize,
     object: &Object,
-    faults: &Faults<'_>,
 ) -> Result<bool, AllocError>
-    ensures { IfOk result (λ b. b ≡ spec.is_wrong_value library.now number object.now faults.now) }
+    ensures { IfOk result (λ is_wrong. is_wrong ≡ spec.is_wrong_value (lent reader.now) object.now) }
 {
-    let reader = Reader {
-        alloc,
-        position: Position::Package(library, number),
-        faults,
-    };
-    let mut broken = Vec::new(alloc);
+    let mut broken = Vec::new(reader.alloc);
     let asked = asked_of_object(library, object);
-    read_value_if_given(&reader, asked, &object.parts.get().value, &mut broken)?;
+    read_value_if_given(reader, asked, &object.parts.get().value, &mut broken)?;
     Ok(!broken.is_empty())
 }
 
-/// Whether the value of the constant behind those that are known is not of its type. These are its nodes.
-fn has_wrong_value(
-    alloc: Global,
+/// Whether a constant is none that Level 1 allows, or a call in it makes a table wrong. These are its nodes.
+fn is_wrong_constant(
+    reader: &Reader<'_>,
     library: &LibraryNames<'_>,
-    known: &[ConstantBreaches],
+    number: usize,
     object: &Object,
     nodes: &[Node<'_>],
 ) -> Result<bool, AllocError>
     requires { map seen nodes.now ≡ names.nodes_of_constant object.now }
-    ensures { IfOk result (λ b. b ≡ spec.has_wrong_value library.now known.now object.now) }
+    ensures { IfOk result (λ is_wrong. is_wrong ≡ spec.is_wrong_constant library.now number (lent reader.now) object.now) }
 {
-    let places = faults_in(alloc, library, known, nodes)?;
-    let faults = Faults::new(alloc, &places)?;
-    is_wrong_value(alloc, library, known.len(), object, &faults)
+    if is_good_constant(Scope::Package(library, number), object) {
+        has_wrong_table(reader, library, nodes)
+    } else {
+        Ok(true)
+    }
 }
 
 /// Whether one of nodes is a wrong call.
-fn has_wrong_call(library: &LibraryNames<'_>, number: usize, nodes: &[Node<'_>]) -> bool
+fn is_one_wrong_call(library: &LibraryNames<'_>, number: usize, nodes: &[Node<'_>]) -> bool
     ensures { result ≡ list_any (λ node. names.is_wrong_call library.now number (seen node)) nodes.now }
 {
     nodes
@@ -187,12 +184,78 @@ fn has_wrong_call(library: &LibraryNames<'_>, number: usize, nodes: &[Node<'_>])
 }
 
 /// Whether a name among nodes is undeclared.
-fn has_undeclared(library: &LibraryNames<'_>, number: usize, nodes: &[Node<'_>]) -> bool
+fn is_one_undeclared(library: &LibraryNames<'_>, number: usize, nodes: &[Node<'_>]) -> bool
     ensures { result ≡ list_any (λ node. names.is_undeclared library.now number (seen node)) nodes.now }
 {
     nodes
         .iter()
         .any(|node| is_undeclared(library, number, *node))
+}
+
+/// Whether a call in a constant is wrong. These are its nodes.
+fn has_wrong_call(
+    library: &LibraryNames<'_>,
+    number: usize,
+    object: &Object,
+    nodes: &[Node<'_>],
+) -> bool
+    requires { map seen nodes.now ≡ names.nodes_of_constant object.now }
+    ensures { result ≡ list_any (names.is_wrong_call library.now number) (names.nodes_of_constant object.now) }
+{
+    is_one_wrong_call(library, number, nodes)
+}
+
+/// Whether a name in a constant is undeclared. These are its nodes.
+fn has_undeclared(
+    library: &LibraryNames<'_>,
+    number: usize,
+    object: &Object,
+    nodes: &[Node<'_>],
+) -> bool
+    requires { map seen nodes.now ≡ names.nodes_of_constant object.now }
+    ensures { result ≡ list_any (names.is_undeclared library.now number) (names.nodes_of_constant object.now) }
+{
+    is_one_undeclared(library, number, nodes)
+}
+
+/// Whether the type or a name in the declaration of a constant is undeclared. These are its nodes.
+fn has_unknown_name(
+    library: &LibraryNames<'_>,
+    number: usize,
+    object: &Object,
+    nodes: &[Node<'_>],
+) -> bool
+    requires { map seen nodes.now ≡ names.nodes_of_constant object.now }
+    ensures { result ≡ spec.has_unknown_name library.now number object.now }
+{
+    let declared = object.parts.get();
+    library.type_named(&declared.subtype.name).is_none()
+        || has_undeclared(library, number, object, nodes)
+}
+
+/// The clauses that the constant of a number breaks itself, where its names break other clauses at these faults. These are its nodes.
+fn own_by(
+    alloc: Global,
+    library: &LibraryNames<'_>,
+    number: usize,
+    object: &Object,
+    nodes: &[Node<'_>],
+    faults: &Faults<'_>,
+) -> Result<ConstantBreaches, AllocError>
+    requires { map seen nodes.now ≡ names.nodes_of_constant object.now }
+    ensures { IfOk result (λ breaches. breaches ≡ spec.own_by library.now number object.now faults.now) }
+{
+    let reader = Reader {
+        alloc,
+        position: Position::Package(library, number),
+        faults,
+    };
+    Ok(ConstantBreaches {
+        clause_3: is_wrong_constant(&reader, library, number, object, nodes)?,
+        clause_14: has_wrong_call(library, number, object, nodes),
+        clause_15: is_wrong_value(&reader, library, object)?,
+        clause_16: has_unknown_name(library, number, object, nodes),
+    })
 }
 
 /// The clauses that the constant behind those that are known breaks itself. These are its nodes.
@@ -206,16 +269,9 @@ fn own(
     requires { map seen nodes.now ≡ names.nodes_of_constant object.now }
     ensures { IfOk result (λ breaches. breaches ≡ spec.own library.now known.now object.now) }
 {
-    let number = known.len();
-    let has_unknown_type = library
-        .type_named(&object.parts.get().subtype.name)
-        .is_none();
-    Ok(ConstantBreaches {
-        clause_3: !is_good_constant(Scope::Package(library, number), object),
-        clause_14: has_wrong_call(library, number, nodes),
-        clause_15: has_wrong_value(alloc, library, known, object, nodes)?,
-        clause_16: has_unknown_type || has_undeclared(library, number, nodes),
-    })
+    let places = faults_in(alloc, library, known, nodes)?;
+    let faults = Faults::new(alloc, &places)?;
+    own_by(alloc, library, known.len(), object, nodes, &faults)
 }
 
 /// Breaches joined with those of the constant that a node names.
@@ -287,7 +343,7 @@ fn breaches_of(
 }
 
 /// The clauses that each constant of the packages of a library breaks, in their order. It is made once for a library, and takes time
-/// in proportion to its packages.
+/// in proportion to its packages, and for each call of a table in them to the rows of the table.
 pub fn constant_breaches(
     alloc: Global,
     library: &LibraryNames<'_>,

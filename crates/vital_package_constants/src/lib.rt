@@ -3,5 +3,7 @@
 
 mod breaches;
 mod names;
+mod tables;
 
 pub use breaches::{ConstantBreaches, breaches_at, constant_breaches};
+pub use tables::{is_wrong_in, is_wrong_package};

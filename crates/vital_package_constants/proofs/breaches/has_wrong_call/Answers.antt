@@ -1,0 +1,8 @@
+use Rattle.vital_package_constants.proofs.BreachLemmas.{any-seen}
+use Rattle.vital_package_constants.specs.Names.{is_wrong_call, nodes_of_constant}
+use Rattle.vital_walk.specs.Seen.{seen}
+use Rattle.vital_package_constants.proofs.breaches.has_wrong_call.Goals as goal
+
+pub returns : goal.returns
+returns c =
+    any-seen (is_wrong_call c.args.library.now c.args.number) seen c.args.nodes.now (nodes_of_constant c.args.object.now) _ c.requires c.is_one_wrong_call.ensures
