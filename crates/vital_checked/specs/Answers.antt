@@ -7,17 +7,17 @@ use Rattle.vital_names.specs.Sites.{Cell}
 use Rattle.vital_timing.specs.declared.delay.Delay.{Delay}
 use Rattle.vital_checked.specs.declared.check.CheckError.{CheckError}
 use Rattle.vital_checked.specs.declared.check.CheckError.TheVariants.{Limit, Broken, NoMemory}
-use Rattle.vital_checked.specs.declared.checked.Checked.{Checked}
-use Rattle.vital_checked.specs.Typed.{typed}
+use Rattle.vital_typed_cells.specs.declared.typed_cell.TypedCell.{TypedCell}
+use Rattle.vital_typed_cells.specs.Typed.{typed}
 
 -- The typed tree of a cell where its level is Level 1; else its first limit, or its first breach where it passes none. Where there is no
 -- memory nothing is told of it.
-abbrev pub IsAnswer : Cell → Result Checked CheckError → Type 0
-IsAnswer cell (Ok checked) = IsVerdict cell (Ok level.Level1) × (checked ≡ typed cell)
+abbrev pub IsAnswer : Cell → Result TypedCell CheckError → Type 0
+IsAnswer cell (Ok tree) = IsVerdict cell (Ok level.Level1) × (tree ≡ typed cell)
 IsAnswer cell (Err (Limit limit)) = IsVerdict cell (Err (verdicts.Limit limit))
 IsAnswer cell (Err (Broken breach)) = IsVerdict cell (Ok (level.Level0 breach)) ⊎ IsVerdict cell (Ok (level.Neither breach))
 IsAnswer cell (Err NoMemory) = ⊤
 
 -- One delay for each timing generic: its default.
-abbrev pub default_values : Checked → List Delay
-default_values checked = map (λ g. g.default) checked.generics
+abbrev pub default_values : TypedCell → List Delay
+default_values cell = map (λ g. g.default) cell.generics

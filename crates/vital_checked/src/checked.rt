@@ -1,144 +1,47 @@
-//! The typed tree of a cell.
+//! Cells that meet Level 1.
 
-ghost use Rattle.std.specs.Prelude.{◌≡◌, [], IfOk};
-ghost use Rattle.vital_objects.specs.Ports.{ports as ports'};
-ghost use Rattle.vital_checked.specs.Processes.{processes as processes'};
-ghost use Rattle.vital_objects.specs.Signals.{signals as signals'};
-ghost use Rattle.vital_checked.specs.Typed as spec;
-ghost use Rattle.vital_checked.specs.Wires.{wires as wires'};
+ghost use Rattle.std.specs.Prelude.{◌≡◌};
+ghost use Rattle.vital_sound.specs.Sound.{IsSound};
 
-use crate::bit_numbers::BitNumbers;
-use crate::process::{CellProcess, processes_before_wires, read_processes};
-use crate::typed_packages::TypedPackages;
-use crate::wire::{WireDelay, read_wires};
-use sqlite_items::Items;
-use std::alloc::{AllocError, Global};
-use vital_names::CellNames;
-use vital_nodes::Shared;
-use vital_objects::{
-    CellReader, Constant, Controls, PackageValue, PlainGeneric, Port, Signal, TimingGeneric,
-    own_declarations, read_constants, read_controls, read_generics, read_ports, read_signals,
-};
-use vital_operands::Faults;
-use vital_uses::CellStatements;
+use std::marker::Model;
+use vital_typed_cells::TypedCell;
 
-/// The typed tree of a cell of Level 1 (IEEE 1076.4). Names are kept: a name in a process means what is declared in it, and else what the
-/// cell declares. Its size is in proportion to the text of the cell: objects that are declared together share their value, and all cells
-/// share what the constants of packages are worth.
+/// A cell that meets Level 1 of VITAL (IEEE 1076.4). Its typed tree is sound: each name, number and index in it is there and means what is
+/// asked of it, its names are identifiers and differ, and each of its times is at most 2^50 fs. Contracts see it as its typed tree.
 #[derive(Debug, Drop)]
 pub struct Checked {
-    /// The bits of the ports, in order. Bits are numbered from 0: those of the ports, and then those of the internal signals.
-    pub ports: Items<Port>,
-    /// The timing generics, in order.
-    pub generics: Items<TimingGeneric>,
-    /// The other generics that are delays, in order.
-    pub plain_generics: Items<PlainGeneric>,
-    pub controls: Controls,
-    /// The bits of the internal signals, in order.
-    pub signals: Items<Signal>,
-    /// The constants of the architecture, in order.
-    pub constants: Items<Constant>,
-    /// What the constants of all packages of the library are worth, by their numbers: nothing where the value is not of its type.
-    pub packages: Shared<Items<Option<Shared<PackageValue>>>>,
-    /// The wire delays, in order: one for each call that joins a signal and a port.
-    pub wires: Items<WireDelay>,
-    /// How many of the processes stand before the wire delays. They are executed in the order of the text.
-    pub processes_before_wires: usize,
-    /// The processes, in order.
-    pub processes: Items<CellProcess>,
+    cell: TypedCell,
 }
 
-/// The processes of a cell with these ports and signals.
-fn processes_of<'a>(
-    reader: &CellReader<'a>,
-    statements: &'a CellStatements<'a>,
-    ports: &[Port],
-    signals: &[Signal],
-) -> Result<Items<CellProcess>, AllocError>
-    requires statements { statements.now ≡ reader.now.names.now.arch }
-    requires ports { ports.now ≡ ports' reader.now.names.now reader.now.faults.now }
-    requires signals { signals.now ≡ signals' reader.now.names.now }
-    ensures { IfOk result (λ processes. processes ≡ processes' reader.now.names.now reader.now.faults.now) }
-{
-    let bits = BitNumbers::new(reader.alloc, ports, signals)?;
-    let processes = read_processes(reader, &bits, statements.processes())?;
-    Ok(processes)
+impl Model for Checked {
+    ghost use Rattle.std.specs.Coded.{codes};
+    ghost use Rattle.vital_sound.specs.Sound.{IsSound};
+    ghost use Rattle.vital_typed_cells.specs.contracts.typed_cell.TypedCell as tree;
+    ghost use Rattle.vital_typed_cells.specs.declared.typed_cell.TypedCell.{TypedCell};
+
+    ghost Value = { TypedCell };
+
+    ghost coded = { Prim.hlevel (codes, tree.the_row.coded) };
+
+    ghost view = { λ c. c.cell };
+
+    ghost invariant = { λ c. IsSound c.cell };
 }
 
-/// The wire delays of a cell.
-fn wires_of<'a>(
-    reader: &CellReader<'a>,
-    statements: &'a CellStatements<'a>,
-) -> Result<Items<WireDelay>, AllocError>
-    requires { statements.now ≡ reader.now.names.now.arch }
-    ensures { IfOk result (λ wires. wires ≡ wires' reader.now.names.now) }
-{
-    let wires = read_wires(reader.alloc, reader.names, statements.statements())?;
-    Ok(wires)
-}
+impl Checked {
+    /// A typed tree that is sound.
+    pub fn new(cell: TypedCell) -> Checked
+        requires { IsSound cell }
+        ensures { result ≡ cell }
+    {
+        Checked { cell }
+    }
 
-/// The typed tree of a cell with these ports and signals, where the constants of packages are worth these values.
-#[tactic(auto, unfolding(crate::specs::Typed::typed_with))]
-fn with_bits<'a>(
-    reader: &CellReader<'a>,
-    known: &[Option<Shared<PackageValue>>],
-    packages: Shared<Items<Option<Shared<PackageValue>>>>,
-    statements: &'a CellStatements<'a>,
-    ports: Items<Port>,
-    signals: Items<Signal>,
-) -> Result<Checked, AllocError>
-    requires packages { packages ≡ known.now }
-    requires statements { statements.now ≡ reader.now.names.now.arch }
-    requires ports { ports ≡ ports' reader.now.names.now reader.now.faults.now }
-    requires signals { signals ≡ signals' reader.now.names.now }
-    ensures { IfOk result (λ checked. checked ≡ spec.typed_with reader.now.names.now reader.now.faults.now known.now) }
-{
-    let names = reader.names;
-    let processes = processes_of(reader, statements, ports.as_slice(), signals.as_slice())?;
-    let generics = read_generics(reader, known)?;
-    Ok(Checked {
-        ports,
-        generics: Items::from_vec(generics.timing),
-        plain_generics: Items::from_vec(generics.plain),
-        controls: read_controls(reader)?,
-        signals,
-        constants: read_constants(reader, None, own_declarations(names))?,
-        packages,
-        wires: wires_of(reader, statements)?,
-        processes_before_wires: processes_before_wires(names),
-        processes,
-    })
-}
-
-/// The typed tree of a cell that meets Level 1. It takes time and memory in proportion to the text of the cell.
-#[tactic(auto, unfolding(crate::specs::Typed::typed))]
-pub fn read_checked<'a>(
-    alloc: Global,
-    packages: &TypedPackages<'_>,
-    names: &'a CellNames<'a>,
-    statements: &'a CellStatements<'a>,
-    faults: &'a Faults<'a>,
-) -> Result<Checked, AllocError>
-    requires packages { packages.now ≡ names.now.files }
-    requires statements { statements.now ≡ names.now.arch }
-    requires faults { faults.now ≡ [] }
-    ensures { IfOk result (λ checked. checked ≡ spec.typed names.now) }
-{
-    let reader = CellReader {
-        alloc,
-        names,
-        faults,
-    };
-    let ports = read_ports(&reader)?;
-    let signals = read_signals(alloc, names)?;
-    let values = packages.share_values()?;
-    let checked = with_bits(
-        &reader,
-        packages.values(),
-        values,
-        statements,
-        ports,
-        signals,
-    )?;
-    Ok(checked)
+    /// Its typed tree.
+    pub fn cell(&self) -> &TypedCell
+        ensures value { result.now ≡ self.now }
+        ensures sound { IsSound self.now }
+    {
+        &self.cell
+    }
 }

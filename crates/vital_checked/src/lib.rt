@@ -1,18 +1,11 @@
-//! The typed tree of a cell of Level 1 of VITAL (IEEE 1076.4), for elaboration and simulation: its objects, wires and processes. Names are
-//! kept.
+//! The check of a cell of VITAL (IEEE 1076.4): its typed tree where it meets Level 1, which is sound, or the first limit that it passes or the
+//! first clause that it breaks; and the delays that its timing generics begin with.
 #![tactic(auto)]
 
-mod bit_numbers;
 mod check;
 mod checked;
-mod process;
-mod typed_packages;
 mod values;
-mod wire;
 
 pub use check::{CheckError, check_cell};
 pub use checked::Checked;
-pub use process::CellProcess;
-pub use typed_packages::TypedPackages;
 pub use values::{Values, default_values};
-pub use wire::WireDelay;

@@ -16,7 +16,7 @@ pub fn default_values(alloc: Global, checked: &Checked) -> Result<Values, AllocE
     ensures { IfOk result (λ values. values ≡ spec.default_values checked.now) }
 {
     let mut values = Vec::new(alloc);
-    for generic in checked.generics.as_slice() {
+    for generic in checked.cell().generics.as_slice() {
         values.push(generic.default)?;
     }
     Ok(List::new(values))

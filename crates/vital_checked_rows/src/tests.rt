@@ -3,29 +3,35 @@
 mod answers;
 mod cells;
 mod default_words;
+mod package_values;
 mod printing;
 
-ghost use Rattle.std.specs.Prelude.{◌≡◌};
+ghost use Rattle.std.specs.Option.{option_copied};
+ghost use Rattle.std.specs.Prelude.{◌≡◌, All, IfOk, IfSome};
+ghost use Rattle.vital_as_read.specs.Libraries.{IsCellOfLibrary, IsFromText};
 ghost use Rattle.vital_grammar.specs.Grammar.{grammar};
 
 use self::answers::{ANSWERS, Answer};
 use self::cells::{CELLS, Row};
 use self::default_words::NAMED_AS_WORDS;
-use self::printing::put_checked;
+use self::package_values::PACKAGE_VALUES;
+use self::printing::put_cell;
 use std::alloc::{AllocError, Global};
 use std::test::Fail;
 use vital_base::List;
-use vital_checked::{CheckError, TypedPackages, check_cell, default_values};
+use vital_checked::{CheckError, check_cell, default_values};
 use vital_level1::Packages;
 use vital_library::{Library, gather};
 use vital_ll::Rules;
 use vital_names::LibraryNames;
-use vital_nodes::{Arch, Entity, Unit};
+use vital_nodes::{Arch, Entity};
+use vital_typed_cells::TypedPackages;
 use vital_vhdl::{Role, UnitError, Units, read_units, vhdl_rules};
 
 /// A text read as the file of a number.
 fn read(alloc: Global, rules: &Rules, file: u32, text: &str) -> Result<Units, UnitError>
     requires { rules.now ≡ grammar }
+    ensures { IfOk result IsFromText }
 {
     if text.len() > 6000 || file > 1 {
         return Err(UnitError::NoMemory);
@@ -33,20 +39,38 @@ fn read(alloc: Global, rules: &Rules, file: u32, text: &str) -> Result<Units, Un
     read_units(alloc, rules, file, Role::Lib, text.as_bytes(), 3000)
 }
 
-/// What is printed of a cell.
+/// The first entity of a library with its first architecture, if it has one.
+fn first_cell(library: &Library) -> Option<(&Entity, Option<&Arch>)>
+    ensures { IfSome result (λ cell. IsCellOfLibrary (record { files = library.now; entity = cell.0.now; arch = option_copied cell.1 })) }
+{
+    if library.entity_count() == 0 {
+        return None;
+    }
+    let arch = if library.arch_count(0) == 0 {
+        None
+    } else {
+        Some(library.arch(0, 0))
+    };
+    Some((library.entity(0), arch))
+}
+
+/// What is printed of a cell of a library.
 fn printed_cell(
     alloc: Global,
     library: &Library,
     entity: &Entity,
     arch: Option<&Arch>,
-) -> Result<String, AllocError> {
+) -> Result<String, AllocError>
+    requires read { All IsFromText library.now }
+    requires cell { IsCellOfLibrary (record { files = library.now; entity = entity.now; arch = option_copied arch }) }
+{
     let names = LibraryNames::new(alloc, library)?;
     let packages = Packages::new(alloc, &names)?;
     let typed = TypedPackages::new(alloc, &packages)?;
     let mut text = String::new(alloc);
     match check_cell(alloc, &typed, entity, arch) {
         Ok(checked) => {
-            put_checked(&mut text, &checked)?;
+            put_cell(&mut text, checked.cell())?;
             let values = default_values(alloc, &checked)?;
             for delay in values.as_slice() {
                 write!(text, "value {delay:?}\n")?;
@@ -80,16 +104,10 @@ fn printed(alloc: Global, rules: &Rules, package: &str, cell: &str) -> Result<St
     let Ok(library) = gather(alloc, List::new(files)) else {
         return Err(UnitError::NoMemory);
     };
-    let [_, cell] = library.files() else {
+    let Some((entity, arch)) = first_cell(&library) else {
         return Err(UnitError::NoMemory);
     };
-    match cell.units.as_slice() {
-        [Unit::Entity(entity)] => Ok(printed_cell(alloc, &library, entity, None)?),
-        [Unit::Entity(entity), Unit::Arch(arch)] => {
-            Ok(printed_cell(alloc, &library, entity, Some(arch))?)
-        }
-        _ => Err(UnitError::NoMemory),
-    }
+    Ok(printed_cell(alloc, &library, entity, arch)?)
 }
 
 #[test]
@@ -107,11 +125,12 @@ fn each_cell_has_its_typed_tree(rt: HostRuntime) -> Result<(), Fail> {
 }
 
 #[test]
-fn defaults_of_generics_are_words(rt: HostRuntime) -> Result<(), Fail> {
+fn constants_of_packages_are_words_or_worth_nothing(rt: HostRuntime) -> Result<(), Fail> {
     let rules = vhdl_rules(rt.alloc())?;
-    let row = &NAMED_AS_WORDS;
-    let found = printed(rt.alloc(), &rules, row.package, row.cell)?;
-    assert_eq!(rt; found.as_str(), row.expected);
+    for row in [&NAMED_AS_WORDS, &PACKAGE_VALUES] {
+        let found = printed(rt.alloc(), &rules, row.package, row.cell)?;
+        assert_eq!(rt; found.as_str(), row.expected);
+    }
     Ok(())
 }
 

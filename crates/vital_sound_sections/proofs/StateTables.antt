@@ -108,7 +108,7 @@ target-sound s k name f t in-call is =
 
 -- ---- what goes with one another
 
-is-there : {A : Type 0} (o : Option A) (t : A) → o ≡ Some t → IsSome o
+pub is-there : {A : Type 0} (o : Option A) (t : A) → o ≡ Some t → IsSome o
 is-there o t is = ap is_some is
 
 few-states : (o : Option ℕ) (t : Target) (n : ℕ) → is_greater_than_results o (Some t) ≡ false → states_of o t ≡ Some n → n ≤ results_of t
@@ -121,7 +121,7 @@ not-false : (b : Bool) → not b ≡ false → b ≡ true
 not-false true is = refl
 not-false false is = cc
 
-abbrev all-typed : GivenCall → List GivenActual
+abbrev pub all-typed : GivenCall → List GivenActual
 all-typed k = typed_ones (all_given k.context k.formals k.items)
 
 all-whole : (k : GivenCall) (b : Bool) → GoTogether k b → broken_ones (all_given k.context k.formals k.items) ≡ []
@@ -137,13 +137,13 @@ same-given k name f none form whole = same-found k.context k.formals name f k.it
 same-actual : (k : GivenCall) (b : Bool) (name : List ℕ) (f : ActualForm) → GoTogether k b → HasForm (formals_of_state_table b) name f → actual_for name (all-typed k) ≡ given.given k name f
 same-actual k b name f go has = same-given k name f go.none (subst (λ (fs : Formals). HasForm fs name f) (sym go.formals) has) (all-whole k b go)
 
-columns-law : (k : GivenCall) (b : Bool) → GoTogether k b → columns (all-typed k) ≡ columns_given k
+pub columns-law : (k : GivenCall) (b : Bool) → GoTogether k b → columns (all-typed k) ≡ columns_given k
 columns-law k b go = ap (option_and_then columns_in) (same-actual k b (codes "statetable") form.StateTable go (table-form b))
 
-inputs-law : (k : GivenCall) (b : Bool) → GoTogether k b → inputs (all-typed k) ≡ option_map length_of (inputs_given k)
+pub inputs-law : (k : GivenCall) (b : Bool) → GoTogether k b → inputs (all-typed k) ≡ option_map length_of (inputs_given k)
 inputs-law k b go = ap (option_and_then inputs_in) (same-actual k b (codes "datain") form.Inputs go (inputs-form b)) ∙ input-count (given.given k (codes "datain") form.Inputs)
 
-result-law : (k : GivenCall) (b : Bool) → GoTogether k b → result (all-typed k) ≡ result_given k
+pub result-law : (k : GivenCall) (b : Bool) → GoTogether k b → result (all-typed k) ≡ result_given k
 result-law k b go = ap (option_and_then target_in) (same-actual k b (codes "result") form.Result go (result-form b)) ∙ same-target (given.given k (codes "result") form.Result)
 
 kept-law : (k : GivenCall) (b : Bool) → GoTogether k b → kept (all-typed k) ≡ kept_given k
@@ -154,18 +154,18 @@ count-law k b go is =
     ap (option_and_then count_in) (same-actual k b (codes "numstates") form.StateCount go (subst (λ (x : Bool). HasForm (formals_of_state_table x) (codes "numstates") form.StateCount) (sym is) count-form))
     ∙ same-count (given.given k (codes "numstates") form.StateCount)
 
-states-law : (k : GivenCall) (b : Bool) (t : Target) → GoTogether k b → result_given k ≡ Some t → states_of (count (all-typed k)) t ≡ states_of (count_given k) t
+pub states-law : (k : GivenCall) (b : Bool) (t : Target) → GoTogether k b → result_given k ≡ Some t → states_of (count (all-typed k)) t ≡ states_of (count_given k) t
 states-law k b (target.Level name) go is = refl
 states-law k b (target.Element name n) go is = refl
 states-law k b (target.Vector name n) go is = count-law k b go (go.vectors name n is)
 
-few-enough : (k : GivenCall) (b : Bool) → GoTogether k b → has_too_many_states (all-typed k) ≡ false
+pub few-enough : (k : GivenCall) (b : Bool) → GoTogether k b → has_too_many_states (all-typed k) ≡ false
 few-enough k b go =
     no-breach k.context k.formals k.items (has_too_many_states (all-typed k)) (codes "numstates") go.none
     (none-before (breach_if (has_too_many_states (all-typed k)) k.context k.formals k.items (codes "numstates")) _ (nothing-misfits k b go))
     (λ h. item-of k.context k.formals k.items (codes "numstates") (some-in count_in (actual_for (codes "numstates") (all-typed k)) (greater-some (count (all-typed k)) (result (all-typed k)) h)))
 
-right-inputs : (k : GivenCall) (b : Bool) → GoTogether k b → IsSome (inputs (all-typed k)) → has_wrong_inputs (all-typed k) ≡ false
+pub right-inputs : (k : GivenCall) (b : Bool) → GoTogether k b → IsSome (inputs (all-typed k)) → has_wrong_inputs (all-typed k) ≡ false
 right-inputs k b go there =
     no-breach k.context k.formals k.items (has_wrong_inputs (all-typed k)) (codes "datain") go.none
     (none-before (breach_if (has_wrong_inputs (all-typed k)) k.context k.formals k.items (codes "datain")) _
@@ -225,11 +225,11 @@ facts s k b table v r n name in-call go tabled reads is states keeps =
       kept = ap (s.names.has_vector name) (kept-fits k b v name vector.0 go reads vector.1) ∙ target-sound s k (codes "previousdatain") form.PreviousData (target.Vector name vector.0) in-call vector.1;
     }
 
-if-is : {A B : Type 0} (Q : B → Type 0) (f : A → Option B) (o : Option A) → ((t : A) → o ≡ Some t → IfSome (f t) Q) → IfSome (option_and_then f o) Q
+pub if-is : {A B : Type 0} (Q : B → Type 0) (f : A → Option B) (o : Option A) → ((t : A) → o ≡ Some t → IfSome (f t) Q) → IfSome (option_and_then f o) Q
 if-is Q f None step = tt
 if-is Q f (Some t) step = step t refl
 
-if-made : {A B : Type 0} (Q : B → Type 0) (f : A → B) (o : Option A) → ((t : A) → o ≡ Some t → Q (f t)) → IfSome (option_map f o) Q
+pub if-made : {A B : Type 0} (Q : B → Type 0) (f : A → B) (o : Option A) → ((t : A) → o ≡ Some t → Q (f t)) → IfSome (option_map f o) Q
 if-made Q f None step = tt
 if-made Q f (Some t) step = step t refl
 

@@ -3,7 +3,6 @@
 use std::alloc::AllocError;
 use vital_actuals::{Path, Target};
 use vital_base::Name;
-use vital_checked::{CellProcess, Checked};
 use vital_nodes::Shared;
 use vital_objects::{Constant, ConstantValue, PackageValue, Variable, VariableKind};
 use vital_operands::{BooleanExpr, ConstantName, DelayExpr, LevelExpr, TimeExpr, VectorExpr};
@@ -11,6 +10,7 @@ use vital_sections::{
     CheckParts, FunctionalStatement, PathDelay, ReferenceParts, StateTable, TimingCheck,
 };
 use vital_tables::Table;
+use vital_typed_cells::{CellProcess, TypedCell};
 use vital_typed_statements::Value;
 
 /// Puts a name behind a blank.
@@ -335,8 +335,8 @@ fn put_process(text: &mut String, process: &CellProcess) -> Result<(), AllocErro
 // ---- cells
 
 /// Puts the ports, generics and controls of a cell.
-fn put_interface(text: &mut String, checked: &Checked) -> Result<(), AllocError> {
-    for port in checked.ports.as_slice() {
+fn put_interface(text: &mut String, cell: &TypedCell) -> Result<(), AllocError> {
+    for port in cell.ports.as_slice() {
         text.push_str("port")?;
         put_name(text, &port.name)?;
         write!(text, " {} {:?}", port.place.line, port.mode)?;
@@ -344,19 +344,19 @@ fn put_interface(text: &mut String, checked: &Checked) -> Result<(), AllocError>
         put_shared(text, &port.default)?;
         text.push_str("\n")?;
     }
-    for generic in checked.generics.as_slice() {
+    for generic in cell.generics.as_slice() {
         text.push_str("generic")?;
         put_name(text, &generic.name)?;
         let parts = generic.parts;
         write!(text, " {:?} {} {:?}", parts.kind, parts.first, parts.second)?;
         write!(text, " {:?}\n", generic.default)?;
     }
-    for generic in checked.plain_generics.as_slice() {
+    for generic in cell.plain_generics.as_slice() {
         text.push_str("plain")?;
         put_name(text, &generic.name)?;
         write!(text, " {:?}\n", generic.default)?;
     }
-    let controls = checked.controls;
+    let controls = cell.controls;
     write!(
         text,
         "controls {:?} {:?}",
@@ -366,9 +366,9 @@ fn put_interface(text: &mut String, checked: &Checked) -> Result<(), AllocError>
 }
 
 /// Puts a cell, one line for each part.
-pub fn put_checked(text: &mut String, checked: &Checked) -> Result<(), AllocError> {
-    put_interface(text, checked)?;
-    for signal in checked.signals.as_slice() {
+pub fn put_cell(text: &mut String, cell: &TypedCell) -> Result<(), AllocError> {
+    put_interface(text, cell)?;
+    for signal in cell.signals.as_slice() {
         text.push_str("signal")?;
         put_name(text, &signal.name)?;
         write!(
@@ -377,21 +377,21 @@ pub fn put_checked(text: &mut String, checked: &Checked) -> Result<(), AllocErro
             signal.place.line, signal.is_resolved, signal.initial
         )?;
     }
-    for constant in checked.constants.as_slice() {
+    for constant in cell.constants.as_slice() {
         put_constant(text, constant)?;
     }
-    for value in checked.packages.get().as_slice() {
+    for value in cell.packages.get().as_slice() {
         put_package_value(text, value)?;
     }
-    write!(text, "before wires {}\n", checked.processes_before_wires)?;
-    for wire in checked.wires.as_slice() {
+    write!(text, "before wires {}\n", cell.processes_before_wires)?;
+    for wire in cell.wires.as_slice() {
         text.push_str("wire")?;
         put_name(text, &wire.signal)?;
         put_name(text, &wire.port)?;
         put_name(text, &wire.generic)?;
         text.push_str("\n")?;
     }
-    for process in checked.processes.as_slice() {
+    for process in cell.processes.as_slice() {
         put_process(text, process)?;
     }
     Ok(())

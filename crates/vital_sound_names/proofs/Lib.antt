@@ -1,0 +1,13 @@
+pub mod Bits
+pub mod Declarations
+pub mod Formed
+pub mod Generics
+pub mod Interface
+pub mod KeptStates
+pub mod NamesGiven
+pub mod Order
+pub mod Parts
+pub mod Spelled
+pub mod Trees
+pub mod TypedWires
+pub mod WireGenerics

@@ -1,0 +1,4 @@
+pub mod KeptStates
+pub mod SpelledNames
+pub mod TreeNames
+pub mod TypedDefaults

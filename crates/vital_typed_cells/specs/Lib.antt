@@ -1,0 +1,5 @@
+pub mod Bits
+pub mod Packages
+pub mod Processes
+pub mod Wires
+pub mod Typed
