@@ -8,11 +8,11 @@ use std::rc::Rc;
 
 /// A value that several nodes share, which contracts see as the value.
 #[derive(Debug, Drop)]
-pub struct Shared<T: Drop> {
+pub struct Shared<T> {
     inner: Rc<T>,
 }
 
-impl<T: Drop> Model for Shared<T> {
+impl<T> Model for Shared<T> {
     ghost Value = { T };
 
     ghost coded = { T.code };
@@ -38,7 +38,9 @@ impl<T: Drop> Shared<T> {
             inner: self.inner.clone()?,
         })
     }
+}
 
+impl<T> Shared<T> {
     /// The value.
     pub fn get(&self) -> &T
         ensures { result.now ≡ self.now }
