@@ -3,6 +3,7 @@
 mod aliases;
 mod constants;
 mod types;
+mod words;
 
 ghost use Rattle.std.specs.Prelude.{◌≡◌};
 ghost use Rattle.vital_grammar.specs.Grammar.{grammar};

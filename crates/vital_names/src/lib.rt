@@ -11,8 +11,6 @@ mod predeclared;
 mod process_names;
 mod redeclared;
 mod site;
-#[cfg(test)]
-mod tests;
 mod type_names;
 mod viewpoint;
 mod words;

@@ -1,11 +1,12 @@
 //! Each predeclared word has its meaning, and words beside them have none.
 
-use crate::predeclared::{
-    Check, Conversion, Function, Inputs, Predeclared, Primitive, Procedure, Severity, TypeName,
-};
-use crate::words::predeclared_meanings;
-use std::collections::HashMap;
 use std::test::Fail;
+use vital_base::List;
+use vital_library::gather;
+use vital_names::{
+    Check, Conversion, Function, Inputs, LibraryNames, Predeclared, Primitive, Procedure, Severity,
+    TypeName,
+};
 use vital_nodes::Logical;
 use vital_timing::{DelayType, GlitchMode, UnitOfTime};
 
@@ -277,11 +278,11 @@ static OTHERS: [&[u8]; 28] = [
 
 /// The first of words that does not have the meaning beside it.
 fn first_wrong<'a>(
-    meanings: &HashMap<&'static [u8], Predeclared>,
+    names: &LibraryNames<'_>,
     words: &'a [(&'a [u8], Predeclared)],
 ) -> Option<&'a [u8]> {
     for (word, meaning) in words {
-        if meanings.get(*word).copied() != Some(*meaning) {
+        if names.predeclared(word) != Some(*meaning) {
             return Some(word);
         }
     }
@@ -289,12 +290,9 @@ fn first_wrong<'a>(
 }
 
 /// The first of words that has a meaning.
-fn first_meant<'a>(
-    meanings: &HashMap<&'static [u8], Predeclared>,
-    words: &'a [&'a [u8]],
-) -> Option<&'a [u8]> {
+fn first_meant<'a>(names: &LibraryNames<'_>, words: &'a [&'a [u8]]) -> Option<&'a [u8]> {
     for word in words {
-        if meanings.contains_key(*word) {
+        if names.predeclared(word).is_some() {
             return Some(word);
         }
     }
@@ -303,8 +301,9 @@ fn first_meant<'a>(
 
 #[test]
 fn each_word_has_its_meaning(rt: HostRuntime) -> Result<(), Fail> {
-    let meanings = predeclared_meanings(rt.alloc())?;
-    assert_eq!(rt; first_wrong(&meanings, &MEANINGS), None);
-    assert_eq!(rt; first_meant(&meanings, &OTHERS), None);
+    let library = gather(rt.alloc(), List::new(Vec::new(rt.alloc())))?;
+    let names = LibraryNames::new(rt.alloc(), &library)?;
+    assert_eq!(rt; first_wrong(&names, &MEANINGS), None);
+    assert_eq!(rt; first_meant(&names, &OTHERS), None);
     Ok(())
 }
