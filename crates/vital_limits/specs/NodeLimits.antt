@@ -1,5 +1,5 @@
 -- The limits that a node passes, as the text stands: whatever clauses are broken, and whatever a name means.
-use Rattle.std.specs.Prelude.{ℕ, Bool, true, false, ◌&&◌, nat_lt, is_none, List, [], ◌∷◌, ◌++◌, length, slice_get, Option, Some, codes, if◌then◌else◌}
+use Rattle.std.specs.Prelude.{ℕ, Bool, true, false, ◌&&◌, ◌||◌, nat_lt, is_none, List, [], ◌∷◌, ◌++◌, length, slice_get, Option, Some, codes, if◌then◌else◌}
 use Rattle.std.specs.List.{flat_map}
 use Rattle.std.specs.Option.{option_map_or}
 use Rattle.std.specs.Str.{bytes_eq}
@@ -70,6 +70,9 @@ are_too_many rows = nat_lt 128 (length rows)
 
 abbrev pub are_too_long : List Item' → Bool
 are_too_long rows = nat_lt 32 (longest rows)
+
+abbrev pub is_long_table : Object → Bool
+is_long_table o = are_too_many (table_rows o) || are_too_long (table_rows o)
 
 -- The limits of rows, which stand where their table is declared.
 abbrev pub limits_of_rows : Place → List Item' → List PassedLimit

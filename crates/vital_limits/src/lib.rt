@@ -12,6 +12,7 @@ mod within_expressions;
 mod within_statements;
 
 pub use cell::cell_limit;
+pub use node_limits::is_long_table;
 pub use packages::{ConstantLimits, constant_limits, constant_meant, named_at};
 pub use passed::{CellLimit, PassedLimit, earliest};
 pub use text_limits::own_limits;

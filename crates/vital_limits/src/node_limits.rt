@@ -114,6 +114,14 @@ pub fn are_too_long(rows: &[Item]) -> bool
     MOST_COLUMNS < longest(rows)
 }
 
+/// Whether an object is a table that passes a limit. It counts the items of at most 128 rows.
+pub fn is_long_table(library: &LibraryNames<'_>, object: &Object) -> bool
+    ensures { result ≡ spec.is_long_table object.now }
+{
+    let rows = table_rows(library, object);
+    are_too_many(rows) || are_too_long(rows)
+}
+
 /// Puts the limits of the rows of a table at the end, where it is declared.
 fn put_of_rows(limits: &mut Vec<PassedLimit>, place: Place, rows: &[Item]) -> Result<(), AllocError>
     ensures { OnOk result (limits.new.items ≡ limits.old.items ++ spec.limits_of_rows place rows.now) }

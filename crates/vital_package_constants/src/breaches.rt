@@ -343,7 +343,7 @@ fn breaches_of(
 }
 
 /// The clauses that each constant of the packages of a library breaks, in their order. It is made once for a library, and takes time
-/// in proportion to its packages, and for each call of a table in them to the rows of the table.
+/// in proportion to its packages, and for each call of a table in them to at most 4,096 symbols of the table.
 pub fn constant_breaches(
     alloc: Global,
     library: &LibraryNames<'_>,

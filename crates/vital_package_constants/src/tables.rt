@@ -9,6 +9,7 @@ ghost use Rattle.vital_walk.specs.Seen.{seen};
 use std::alloc::{AllocError, Global};
 use vital_declaration_clauses::Scope;
 use vital_expr::Reader;
+use vital_limits::is_long_table;
 use vital_names::LibraryNames;
 use vital_nodes::Object;
 use vital_tables::{Table, table_of};
@@ -49,7 +50,18 @@ pub fn is_wrong_package(
     }
 }
 
-/// Whether a call in the value of a constant of a package makes the table wrong that it uses, which is one of a package.
+/// Whether the constant of a package that has this number is a table that passes a limit.
+fn is_long_package(library: &LibraryNames<'_>, number: usize) -> bool
+    ensures { result ≡ spec.is_long_package library.now number }
+{
+    match library.constants().get(number) {
+        Some(object) => is_long_table(library, object),
+        None => false,
+    }
+}
+
+/// Whether a call in the value of a constant of a package makes the table wrong that it uses, which is one of a package. Of a table
+/// that passes a limit nothing is asked, so that it reads at most 128 rows of 32 symbols.
 fn makes_wrong(
     alloc: Global,
     library: &LibraryNames<'_>,
@@ -59,7 +71,13 @@ fn makes_wrong(
 {
     match used.table {
         UsedTable::Cell(_) => Ok(false),
-        UsedTable::Package(number) => is_wrong_package(alloc, library, used, number),
+        UsedTable::Package(number) => {
+            if is_long_package(library, number) {
+                Ok(false)
+            } else {
+                is_wrong_package(alloc, library, used, number)
+            }
+        }
     }
 }
 

@@ -3,7 +3,7 @@
 use super::{Expected, Row};
 use vital_limits::CellLimit;
 
-pub static PACKAGE_CONSTANTS: [Row; 17] = [
+pub static PACKAGE_CONSTANTS: [Row; 18] = [
     Row {
         package: "package P is constant K : STD_ULOGIC := K; end P;",
         edits: &[(17, "    Z := K;")],
@@ -102,5 +102,11 @@ pub static PACKAGE_CONSTANTS: [Row; 17] = [
         package: "package P is constant T : VitalTruthTableType := (('B', '1'), ('0', '0')); constant L : STD_ULOGIC := VitalTruthTable (T, \"00\"); end P;",
         edits: &[(17, "    Z := L;")],
         expected: Expected::Broken(1, 15, 17, 10),
+    },
+    // Of a table that passes a limit the limit is told, where a constant is named whose value calls it.
+    Row {
+        package: "package P is constant T : VitalTruthTableType := (('S', '0', '0', '0', '0', '0', '0', '0', '0', '0', '0', '0', '0', '0', '0', '0', '0', '0', '0', '0', '0', '0', '0', '0', '0', '0', '0', '0', '0', '0', '0', '0', '0'), ('0', '0', '0', '0', '0', '0', '0', '0', '0', '0', '0', '0', '0', '0', '0', '0', '0', '0', '0', '0', '0', '0', '0', '0', '0', '0', '0', '0', '0', '0', '0', '0', '0')); constant L : STD_ULOGIC := VitalTruthTable (T, \"00000000000000000000000000000000\"); end P;",
+        edits: &[(17, "    Z := L;")],
+        expected: Expected::Limit(CellLimit::Columns, 17, 10),
     },
 ];
