@@ -1,0 +1,9 @@
+pub mod PortMapLemmas
+pub mod BitLemmas
+pub mod SpanLemmas
+pub mod MeetLemmas
+pub mod SumLemmas
+pub mod BoundLemmas
+pub mod TakenLemmas
+pub mod TakeLemmas
+pub mod IdentifierLemmas

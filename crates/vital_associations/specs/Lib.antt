@@ -1,0 +1,11 @@
+pub mod Formals
+pub mod Items
+pub mod Actuals
+pub mod Overlaps
+pub mod Misfits
+pub mod Identifiers
+pub mod Points
+pub mod Associations
+pub mod PortMaps
+pub mod Spans
+pub mod Sums
