@@ -3,7 +3,7 @@ use Rattle.std.proofs.Common.{◌≡◌, ℕ, zero, suc, ◌≤◌, cond, leb, L
 use Rattle.std.specs.Option.{option_map_or, option_and_then}
 use Rattle.std.proofs.lemmas.Bool.{cases_Bool}
 use Rattle.vital_base.specs.declared.ports.PortBit.{PortBit}
-use Rattle.vital_tool.specs.Driver.{Driver, next_time, advance, pending_count}
+use Rattle.vital_agenda.specs.Driver.{Driver, next_time, advance, pending_count}
 use Rattle.vital_tool.specs.Ports.{cycles, due, port_events}
 use Rattle.vital_tool.specs.Run.{Event, delta_at}
 use Rattle.vital_tool.proofs.Least.{fewer_pending}

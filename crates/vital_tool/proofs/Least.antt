@@ -1,11 +1,9 @@
 -- The least of the times at which drivers have pending transactions.
-use Rattle.std.proofs.Common.{◌≡◌, ℕ, ◌+◌, ◌<◌, ◌≤◌, min, Bool, true, false, not, cond, List, [], ◌∷◌, ◌++◌, length, take, get_or, filter, map, ◌⊎◌, inl, inr, Option, Some, None, refl, sym, ap, subst, ◌∙◌, arith}
+use Rattle.std.proofs.Common.{◌≡◌, ℕ, ◌+◌, ◌<◌, ◌≤◌, min, Bool, true, false, not, cond, List, [], ◌∷◌, ◌++◌, length, filter, map, ◌⊎◌, inl, inr, Option, Some, None, refl, sym, ap, subst, ◌∙◌, arith}
 use Rattle.std.specs.List.{flat_map}
 use Rattle.std.proofs.lemmas.Bool.{cases_eq, cases_lt, eq-eqb, ne_eqb}
-use Rattle.std.proofs.lemmas.List.{take_more, map_more, append-nil}
-use Rattle.std.proofs.lemmas.Grind.{flat_map-append}
-use Rattle.vital_tool.specs.declared.driver.Transaction.{Transaction}
-use Rattle.vital_tool.specs.Driver.{Driver, RisesFrom, AllRise, is_at, sooner, least, pending_times, next_time, advance, pending_count}
+use Rattle.vital_agenda.specs.declared.transaction.Transaction.{Transaction}
+use Rattle.vital_agenda.specs.Driver.{Driver, RisesFrom, AllRise, is_at, sooner, least, pending_times, next_time, advance, pending_count}
 use Rattle.vital_tool.proofs.Rising.{rises_lower, first_is_least, none_at}
 
 sooner_assoc : (x : ℕ) (a b : Option ℕ) → sooner (Some x) (sooner a b) ≡ sooner (sooner (Some x) a) b
@@ -20,20 +18,6 @@ sooner_assoc x (Some a) (Some b) = ap (λ (n : ℕ). Some n) (min_assoc x a b)
 pub least-append : (xs ys : List ℕ) → least (xs ++ ys) ≡ sooner (least xs) (least ys)
 least-append [] ys = refl
 least-append (x ∷ xs) ys = ap (sooner (Some x)) (least-append xs ys) ∙ sooner_assoc x (least xs) (least ys)
-
-next_time_end : (ds : List Driver) (d : Driver) → next_time (ds ++ d ∷ []) ≡ sooner (next_time ds) (least (pending_times d))
-next_time_end ds d =
-    ap least (flat_map-append pending_times ds (d ∷ []) ∙ ap (λ (ts : List ℕ). flat_map pending_times ds ++ ts) (append-nil (pending_times d)))
-    ∙ least-append (flat_map pending_times ds) (pending_times d)
-
--- one driver more
-pub next_time_more : (ds : List Driver) (i : ℕ) (d : Driver) → i < length ds → next_time (take (i + 1) ds) ≡ sooner (next_time (take i ds)) (least (pending_times (get_or ds i d)))
-next_time_more ds i d lt = ap next_time (take_more ds i d lt) ∙ next_time_end (take i ds) (get_or ds i d)
-
--- one driver more that has come to a time
-pub next_time_after_more : (time i : ℕ) (ds : List Driver) (d : Driver) → i < length ds
-    → next_time (map (advance time) (take (i + 1) ds)) ≡ sooner (next_time (map (advance time) (take i ds))) (least (pending_times (advance time (get_or ds i d))))
-next_time_after_more time i ds d lt = ap next_time (map_more (advance time) ds i d lt) ∙ next_time_end (map (advance time) (take i ds)) (advance time (get_or ds i d))
 
 -- a time comes before none of those that may be missing
 abbrev pub NotAfter : ℕ → Option ℕ → Type 0
@@ -91,7 +75,7 @@ kept-le p (x ∷ xs) =
       | false ↦ omega (arith, kept-le p xs)
     ]
 
-count-le : (time : ℕ) (ds : List Driver) → pending_count (map (advance time) ds) ≤ pending_count ds
+pub count-le : (time : ℕ) (ds : List Driver) → pending_count (map (advance time) ds) ≤ pending_count ds
 count-le time [] = omega arith
 count-le time (d ∷ ds) = omega (arith, kept-le (λ x. not (is_at time x)) d.pending, count-le time ds)
 
@@ -128,7 +112,7 @@ fewer_pending time (d ∷ ds) e =
       | inr there ↦ omega (arith, kept-le (λ x. not (is_at time x)) d.pending, fewer_pending time ds there)
     ]
 
-rises_above : (low time : ℕ) (xs : List Transaction) → RisesFrom low xs → least (map (λ x. x.time) xs) ≡ Some time → low ≤ time
+pub rises_above : (low time : ℕ) (xs : List Transaction) → RisesFrom low xs → least (map (λ x. x.time) xs) ≡ Some time → low ≤ time
 rises_above low time [] h e = absurd cc
 rises_above low time (x ∷ xs) h e =
     let first : Some x.time ≡ Some time = sym (first_is_least low x xs h) ∙ e in

@@ -3,7 +3,8 @@ pub mod Least
 pub mod CycleStates
 pub mod Texts
 pub mod Sending
-pub mod OneCycle
+pub mod Handing
+pub mod DueText
 pub mod Printing
 pub mod Finishing
 pub mod Refusing

@@ -9,8 +9,9 @@ use Rattle.vital_report.specs.Lines.{Said}
 use Rattle.vital_stim.specs.declared.stimuli.StimLine.{StimLine}
 use Rattle.vital_stim.specs.declared.stimuli.Stimuli.{Stimuli}
 use Rattle.vital_tool.specs.Answer.{Answer, text_of}
-use Rattle.vital_tool.specs.Driver.{Driver, AllRise, next_time, advance, send, pending_count}
-use Rattle.vital_tool.specs.Play.{changed, port_signal, stimulated, sent, after_initial_run}
+use Rattle.vital_agenda.specs.Driver.{Driver, AllRise, next_time, advance, send, pending_count}
+use Rattle.vital_agenda.specs.Agendas.{changed}
+use Rattle.vital_tool.specs.Play.{port_signal, stimulated, sent, after_initial_run}
 use Rattle.vital_tool.specs.Ports.{idle_drivers, sent_to, port_inits, port_event, port_events, due, cycles, port_run, port_lines}
 use Rattle.vital_tool.specs.Run.{Signal, Event, State, drivers_of, after, event_in, events, up_to, delta_at, cycle, step_at, step, End, Ended, DeltaPassed, IsRun, ends, passes, goes_on}
 use Rattle.vital_tool.specs.Stimuli.{init_line, unasked, run_lines, IsStimuliAnswer}

@@ -1,17 +1,25 @@
 -- A text that calls write part by part.
-use Rattle.std.proofs.Common.{◌≡◌, ℕ, ◌+◌, ◌<◌, ◌≤◌, false, List, [], ◌∷◌, ◌++◌, length, drop, get_or, map, Result, Ok, Err, refl, sym, ap, subst, ◌∙◌, append_assoc}
+use Rattle.std.proofs.Common.{◌≡◌, ℕ, ◌+◌, zero, suc, ◌<◌, ◌≤◌, false, List, [], ◌∷◌, ◌++◌, length, take, drop, get_or, map, Some, Result, Ok, Err, refl, sym, ap, subst, ◌∙◌, append_assoc, arith}
 use Rattle.std.proofs.lemmas.Grind.{flat_map-append}
-use Rattle.std.proofs.lemmas.List.{append-nil, drop_more, drop_all}
+use Rattle.std.proofs.Math.Seq.{take-append_seam}
+use Rattle.std.proofs.lemmas.List.{append-nil, drop_more, drop_all, take-append-drop}
+use Rattle.std.specs.Prelude.{slice_get}
 use Rattle.std.specs.Result.{IsErrAnd}
 use Rattle.std.proofs.lemmas.Result.{err_from_is_err_and}
 use Rattle.vital_base.specs.declared.ports.PortBit.{PortBit}
-use Rattle.vital_report.specs.Lines.{version, init, end, bytes_of}
+use Rattle.vital_report.specs.Lines.{Said, version, init, end, bytes_of}
 use Rattle.vital_report.specs.Reporters.{PrinterState, Printed, Stopped, Prints}
-use Rattle.vital_tool.specs.Driver.{Driver}
+use Rattle.vital_stim.specs.declared.stimuli.StimLine.{StimLine}
+use Rattle.vital_agenda.specs.Driver.{Driver, currents}
+use Rattle.vital_logic.specs.declared.level.Level.{Level}
 use Rattle.vital_tool.specs.Answer.{text_of}
+use Rattle.vital_tool.specs.Outcome.{PlayPrints}
 use Rattle.vital_tool.specs.Stimuli.{event_line}
-use Rattle.vital_tool.specs.Ports.{port_inits, port_run, port_lines, cycles_text}
+use Rattle.vital_tool.specs.Ports.{port_inits, port_run, port_lines, cycles_text, sent_to}
+use Rattle.vital_tool.specs.declared.cycles.PlayError.{PlayError}
+use Rattle.vital_tool.specs.declared.cycles.PlayError.TheVariants as play
 use Rattle.vital_tool.proofs.Printing.{text_of_events}
+use Rattle.vital_tool.proofs.Sending.{current-sent}
 use Rattle.vital_tool.proofs.Texts.{printed_none, printed_then, stopped_then, stopped_within}
 
 -- a front of a whole text was printed, and this rest of it is left
@@ -38,6 +46,19 @@ part_stops start whole piece rest now next p failed =
     subst (λ (text : List ℕ). Stopped text start next) (append_assoc p.front piece rest ∙ p.parts)
     (stopped_within (p.front ++ piece) rest start next (stopped_then p.front piece start now next p.printed failed))
 
+-- memory ran out within the rest
+pub part_breaks : (start : PrinterState) (whole rest : List ℕ) (now : PrinterState) → Part start whole rest now → (count : ℕ) × Printed (take count whole) start now
+part_breaks start whole rest now p =
+    (length p.front, subst (λ (text : List ℕ). Printed text start now) (sym (ap (take (length p.front)) (sym p.parts) ∙ take-append_seam p.front rest)) p.printed)
+
+-- a prefix of a piece is one of the whole
+pub part_breaks_in : (start : PrinterState) (whole piece rest : List ℕ) (now next : PrinterState) → Part start whole (piece ++ rest) now → (count : ℕ) × Printed (take count piece) now next
+    → (count : ℕ) × Printed (take count whole) start next
+part_breaks_in start whole piece rest now next p broken =
+    let parted : piece ++ rest ≡ take broken.0 piece ++ (drop broken.0 piece ++ rest) = ap (λ (xs : List ℕ). xs ++ rest) (sym (take-append-drop broken.0 piece)) ∙ append_assoc (take broken.0 piece) (drop broken.0 piece) rest in
+    part_breaks start whole (drop broken.0 piece ++ rest) next
+    (part_goes_on start whole (take broken.0 piece) (drop broken.0 piece ++ rest) now next (subst (λ (xs : List ℕ). Part start whole xs now) parted p) broken.1)
+
 -- nothing is left
 pub part_ends : (start : PrinterState) (whole : List ℕ) (now : PrinterState) → Part start whole [] now → Printed whole start now
 part_ends start whole now p =
@@ -47,15 +68,36 @@ part_ends start whole now p =
 abbrev pub inits_text : List PortBit → List Driver → List ℕ
 inits_text ports ds = text_of (port_inits ports ds)
 
-pub one_init : (ports : List PortBit) (ds : List Driver) (i : ℕ) (p : PortBit) (d : Driver) → i < length ports → i < length ds → d ≡ get_or ds i d
-    → inits_text (drop i ports) (drop i ds) ≡ bytes_of (init (get_or ports i p).name d.current) ++ inits_text (drop (i + 1) ports) (drop (i + 1) ds)
-one_init ports ds i p d lt within is =
+got_current : (ds : List Driver) (i : ℕ) (v : Level) → slice_get (currents ds) i ≡ Some v → (i < length ds) × ((d : Driver) → (get_or ds i d).current ≡ v)
+got_current [] i v got = cc
+got_current (d ∷ ds) zero v got = (omega arith, λ e. cc)
+got_current (d ∷ ds) (suc i) v got = let rest = got_current ds i v got in (omega (arith, rest.0), rest.1)
+
+pub one_init : (ports : List PortBit) (ds : List Driver) (i : ℕ) (p : PortBit) (v : Level) → i < length ports → slice_get (currents ds) i ≡ Some v
+    → inits_text (drop i ports) (drop i ds) ≡ bytes_of (init (get_or ports i p).name v) ++ inits_text (drop (i + 1) ports) (drop (i + 1) ds)
+one_init ports ds i p v lt got =
+    let has = got_current ds i v got in
+    let d : Driver = record { current = v; pending = [] } in
     ap (λ (ps : List PortBit). inits_text ps (drop i ds)) (drop_more ports i p lt)
-    ∙ ap (λ (l : List Driver). inits_text (get_or ports i p ∷ drop (i + 1) ports) l) (drop_more ds i d within)
-    ∙ ap (λ (x : Driver). bytes_of (init (get_or ports i p).name x.current) ++ inits_text (drop (i + 1) ports) (drop (i + 1) ds)) (sym is)
+    ∙ ap (λ (l : List Driver). inits_text (get_or ports i p ∷ drop (i + 1) ports) l) (drop_more ds i d has.0)
+    ∙ ap (λ (x : Level). bytes_of (init (get_or ports i p).name x) ++ inits_text (drop (i + 1) ports) (drop (i + 1) ds)) (has.1 d)
 
 pub no_init : (ports : List PortBit) (ds : List Driver) (i : ℕ) → length ports ≤ i → inits_text (drop i ports) ds ≡ []
 no_init ports ds i le = ap (λ (ps : List PortBit). inits_text ps ds) (drop_all i ports le)
+
+-- lines that are sent leave it as it is
+pub inits_sent : (lines : List StimLine) (ports : List PortBit) (ds : List Driver) → inits_text ports (sent_to lines ds) ≡ inits_text ports ds
+inits_sent lines ports ds = ap text_of (same_inits ports (sent_to lines ds) ds (current-sent lines ds))
+  where
+    same_inits : (ports : List PortBit) (ds es : List Driver) → currents ds ≡ currents es → port_inits ports ds ≡ port_inits ports es
+    same_inits [] ds es h = refl
+    same_inits (p ∷ ports) [] [] h = refl
+    same_inits (p ∷ ports) [] (e ∷ es) h = absurd cc
+    same_inits (p ∷ ports) (d ∷ ds) [] h = absurd cc
+    same_inits (p ∷ ports) (d ∷ ds) (e ∷ es) h =
+        let value : d.current ≡ e.current = cc in
+        let values : currents ds ≡ currents es = cc in
+        ap (λ (v : Level). init p.name v ∷ port_inits ports ds) value ∙ ap (λ (rest : List Said). init p.name e.current ∷ rest) (same_inits ports ds es values)
 
 -- the parts of a run's text after its first line
 abbrev pub after_version : List PortBit → List Driver → ℕ → List ℕ
@@ -72,14 +114,28 @@ run_text ports ds until =
     ∙ ap (λ (rest : List ℕ). text_of inits ++ rest)
     (flat_map-append bytes_of (map event_line happened) (end until ∷ []) ∙ ap (λ (front : List ℕ). front ++ (bytes_of (end until) ++ [])) (text_of_events happened)))
 
--- the last piece
-pub prints_last : {T E : Type 0} (r : Result T E) (start : PrinterState) (whole piece : List ℕ) (now next : PrinterState) → Part start whole (piece ++ []) now → Prints r piece now next → Prints r whole start next
-prints_last (Ok x) start whole piece now next p w = part_ends start whole next (part_goes_on start whole piece [] now next p w)
-prints_last (Err e) start whole piece now next p w = part_stops start whole piece [] now next p w
-
 -- a fault that is passed on
 pub prints_failed : {T E : Type 0} (Q : E → Type 0) (r : Result T E) (whole : List ℕ) (start next : PrinterState) → IsErrAnd r Q → Stopped whole start next → Prints r whole start next
 prints_failed Q r whole start next failed w = let p = err_from_is_err_and r failed in rw p.1 w
+
+-- the sink failed, and that is passed on
+pub play_stops : {T : Type 0} (r : Result T PlayError) (whole : List ℕ) (start next : PrinterState) → IsErrAnd r (λ e. e ≡ play.WriteFault) → Stopped whole start next → PlayPrints r whole start next
+play_stops r whole start next failed w =
+    let p = err_from_is_err_and r failed in
+    let is : r ≡ Err play.WriteFault = p.1 ∙ ap (λ (e : PlayError). Err e) p.2 in rw is w
+
+-- memory ran out, and that is passed on
+pub play_breaks : {T : Type 0} (r : Result T PlayError) (whole : List ℕ) (start next : PrinterState) → IsErrAnd r (λ e. e ≡ play.NoMemory) → (count : ℕ) × Printed (take count whole) start next
+    → PlayPrints r whole start next
+play_breaks r whole start next failed w =
+    let p = err_from_is_err_and r failed in
+    let is : r ≡ Err play.NoMemory = p.1 ∙ ap (λ (e : PlayError). Err e) p.2 in rw is w
+
+-- a piece failed, and that is passed on
+pub play_failed : {T : Type 0} (U : Type 0) (r : Result T PlayError) (e : PlayError) (start : PrinterState) (whole piece rest : List ℕ) (now next : PrinterState) → IsErrAnd r (λ x. x ≡ e)
+    → Part start whole (piece ++ rest) now → PlayPrints {T = U} (Err e) piece now next → PlayPrints r whole start next
+play_failed U r play.WriteFault start whole piece rest now next failed p w = play_stops r whole start next failed (part_stops start whole piece rest now next p w)
+play_failed U r play.NoMemory start whole piece rest now next failed p w = play_breaks r whole start next failed (part_breaks_in start whole piece rest now next p w)
 
 -- the first line of a run, from any printer on
 pub run_begins : (ports : List PortBit) (ds : List Driver) (until : ℕ) (start next : PrinterState) → Printed (bytes_of version) start next

@@ -1,5 +1,5 @@
 -- From what was printed to what a stage of a run did.
-use Rattle.std.proofs.Common.{◌≡◌, ◌≢◌, ℕ, false, List, [], ◌∷◌, ◌++◌, map, Option, Some, None, refl, sym, ap, subst, arith}
+use Rattle.std.proofs.Common.{◌≡◌, ◌≢◌, ℕ, false, List, [], ◌∷◌, ◌++◌, take, map, Option, Some, None, refl, sym, ap, subst, arith}
 use Rattle.std.specs.Prelude.{IfSome}
 use Rattle.std.specs.List.{flat_map}
 use Rattle.vital_report.specs.Reporters.{PrinterState, Printed, Stopped}
@@ -40,6 +40,19 @@ stage_stops answer old new going p =
       rose = λ e. stopped_rose answer.bytes old new going p;
       same_count = λ other. absurd (other refl);
       never_falls = p.never_falls;
+      same_sink = p.same_sink;
+    }
+
+-- memory ran out when a prefix was printed
+pub stage_breaks : (answer : Answer) (old new : PrinterState) → (count : ℕ) × Printed (take count answer.bytes) old new → Stage (λ other. other ≡ answer) NoMemory old new
+stage_breaks answer old new (count, p) =
+    record {
+      prints = λ other e. subst (λ (x : Answer). PrintsAnswer x NoMemory old new) (sym e) (until_no_memory refl (count, p));
+      goes_on = λ e. absurd cc;
+      no_read_fault = λ e. absurd cc;
+      rose = λ e. absurd cc;
+      same_count = λ e. p.same_count;
+      never_falls = omega (arith, p.same_count);
       same_sink = p.same_sink;
     }
 

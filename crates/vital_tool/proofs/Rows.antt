@@ -4,10 +4,12 @@ use Rattle.std.specs.Prelude.{codes}
 use Rattle.vital_base.specs.declared.kind.Kind.TheVariants.{Transport, Inertial}
 use Rattle.vital_logic.specs.declared.level.Level.{Level}
 use Rattle.vital_logic.specs.declared.level.Level.TheVariants.{U, X, Zero, One, Z}
-use Rattle.vital_tool.specs.Driver.{Driver, pending_after, send}
+use Rattle.vital_agenda.specs.Driver.{Driver, pending_after, send}
+use Rattle.vital_stim.specs.declared.stimuli.StimLine.{StimLine}
+use Rattle.vital_tool.specs.Ports.{due_lines, later_lines}
 use Rattle.vital_tool.specs.Run.{Signal, State, ended, passed, cycle, step}
 use Rattle.vital_tool.specs.Stimuli.{unasked}
-use Rattle.vital_tool.specs.declared.driver.Transaction.{Transaction}
+use Rattle.vital_agenda.specs.declared.transaction.Transaction.{Transaction}
 
 abbrev at : ℕ → Level → Transaction
 at time value = record { time = time; value = value }
@@ -47,6 +49,23 @@ earlier_ones_stay = refl
 
 the_time_less_the_delay_is_not_before : pending_after Inertial 10 One 3 (at 10 Zero ∷ []) ≡ at 13 One ∷ []
 the_time_less_the_delay_is_not_before = refl
+
+-- ---- lines that are due
+
+abbrev line : ℕ → ℕ → Level → StimLine
+line time port value = record { time = time; port = port; value = value }
+
+the_first_lines_at_a_time_are_due : due_lines 5 (line 5 0 One ∷ line 5 1 X ∷ line 7 0 Zero ∷ []) ≡ line 5 0 One ∷ line 5 1 X ∷ []
+the_first_lines_at_a_time_are_due = refl
+
+the_others_come_later : later_lines 5 (line 5 0 One ∷ line 5 1 X ∷ line 7 0 Zero ∷ []) ≡ line 7 0 Zero ∷ []
+the_others_come_later = refl
+
+no_line_is_due_at_another_time : due_lines 6 (line 5 0 One ∷ line 6 0 X ∷ []) ≡ []
+no_line_is_due_at_another_time = refl
+
+then_all_come_later : later_lines 6 (line 5 0 One ∷ line 6 0 X ∷ []) ≡ line 5 0 One ∷ line 6 0 X ∷ []
+then_all_come_later = refl
 
 -- ---- steps
 

@@ -1,59 +1,102 @@
 -- Stimuli that are sent to the drivers of their ports.
-use Rattle.std.proofs.Common.{◌≡◌, ℕ, zero, suc, ◌+◌, ◌<◌, List, [], ◌∷◌, length, get_or, set, drop, refl, sym, ap, ◌∙◌, zero-add, arith}
-use Rattle.std.proofs.lemmas.List.{drop_more, length-map}
+use Rattle.std.proofs.Common.{◌≡◌, ℕ, zero, suc, ◌+◌, ◌-◌, ◌<◌, ◌≤◌, List, [], ◌∷◌, length, get_or, drop, map, refl, sym, ap, ◌∙◌, arith}
+use Rattle.std.proofs.lemmas.List.{drop_more}
 use Rattle.vital_base.specs.declared.ports.PortBit.{PortBit}
 use Rattle.vital_base.specs.declared.kind.Kind.TheVariants.{Transport}
 use Rattle.vital_logic.specs.declared.level.Level.{Level}
 use Rattle.vital_stim.specs.declared.stimuli.StimLine.{StimLine}
-use Rattle.vital_stim.specs.declared.stimuli.Stimuli.{Stimuli}
-use Rattle.vital_tool.specs.Driver.{AllRise, Driver, with_new, send}
-use Rattle.vital_tool.specs.Play.{changed, idle_driver}
-use Rattle.vital_tool.specs.Ports.{idle_drivers, sent_to}
+use Rattle.vital_agenda.specs.Agendas.{Content, assigned, changed}
+use Rattle.vital_agenda.specs.Agendas.{idle_driver as idle}
+use Rattle.vital_agenda.specs.Driver.{AllRise, Driver, currents, send, with_new, pending_count}
+use Rattle.vital_tool.specs.Play.{idle_driver, initial_level}
+use Rattle.vital_tool.specs.Ports.{ComeFrom, idle_drivers, sent_to}
 use Rattle.vital_tool.proofs.Rising.{with_new_rises}
 
-set_is_changed : (ds : List Driver) (n : ℕ) (f : Driver → Driver) (d : Driver) → n < length ds → set ds n (f (get_or ds n d)) ≡ changed n f ds
-set_is_changed [] n f d lt = absurd (omega arith)
-set_is_changed (x ∷ ds) zero f d lt = refl
-set_is_changed (x ∷ ds) (suc n) f d lt = ap (λ (ys : List Driver). x ∷ ys) (set_is_changed ds n f d (omega arith))
-
--- one line more is sent
-pub sends : (lines : List StimLine) (i : ℕ) (none : StimLine) (ds : List Driver) (new d : Driver) → i < length lines → (get_or lines i none).port < length ds
-    → new ≡ record { current = (get_or ds (get_or lines i none).port d).current; pending = with_new (get_or ds (get_or lines i none).port d).pending (get_or lines i none).time (get_or lines i none).value }
-    → sent_to (drop (i + 1) lines) (set ds (get_or lines i none).port new) ≡ sent_to (drop i lines) ds
-sends lines i none ds new d lt within assigned =
-    let line = get_or lines i none in
-    let f : Driver → Driver = send 0 Transport line.value line.time in
-    let old = get_or ds line.port d in
-    let at_time : f old ≡ record { current = old.current; pending = with_new old.pending line.time line.value } =
-    ap (λ (t : ℕ). record { current = old.current; pending = with_new old.pending t line.value }) (zero-add line.time) in
-    let after : set ds line.port new ≡ changed line.port f ds = ap (set ds line.port) (assigned ∙ sym at_time) ∙ set_is_changed ds line.port f d within in
-    ap (sent_to (drop (i + 1) lines)) after ∙ sym (ap (λ (ls : List StimLine). sent_to ls ds) (drop_more lines i none lt))
-
-idle_rise : (ports : List PortBit) → AllRise 0 (idle_drivers ports)
-idle_rise [] = tt
-idle_rise (p ∷ ports) = (tt, idle_rise ports)
-
-changed_rise : (n : ℕ) (value : Level) (delay : ℕ) (ds : List Driver) → AllRise 0 ds → AllRise 0 (changed n (send 0 Transport value delay) ds)
-changed_rise n value delay [] h = tt
-changed_rise zero value delay (d ∷ ds) h = (with_new_rises 0 (0 + delay) value d.pending h.0 (omega arith), h.1)
-changed_rise (suc n) value delay (d ∷ ds) h = (h.0, changed_rise n value delay ds h.1)
-
-sent_rise : (lines : List StimLine) (ds : List Driver) → AllRise 0 ds → AllRise 0 (sent_to lines ds)
-sent_rise [] ds h = h
-sent_rise (line ∷ lines) ds h = sent_rise lines (changed line.port (send 0 Transport line.value line.time) ds) (changed_rise line.port line.value line.time ds h)
-
--- after the initial run each driver's transactions rise
-pub all_rise_sent : (lines : List StimLine) (ports : List PortBit) → AllRise 0 (sent_to lines (idle_drivers ports))
-all_rise_sent lines ports = sent_rise lines (idle_drivers ports) (idle_rise ports)
+pub come_lower : (ports low high : ℕ) (lines : List StimLine) → low ≤ high → ComeFrom ports high lines → ComeFrom ports low lines
+come_lower ports low high [] le h = tt
+come_lower ports low high (line ∷ lines) le h = (h.0, omega (arith, h.1), h.2, h.3)
 
 length-changed : (n : ℕ) (f : Driver → Driver) (ds : List Driver) → length (changed n f ds) ≡ length ds
 length-changed n f [] = refl
 length-changed zero f (d ∷ ds) = refl
 length-changed (suc n) f (d ∷ ds) = ap suc (length-changed n f ds)
 
+-- one line more is sent at its time
+pub send_is : (now delay : ℕ) (line : StimLine) (ds : List Driver) → now + delay ≡ 0 + line.time
+    → changed line.port (send now Transport line.value delay) ds ≡ changed line.port (send 0 Transport line.value line.time) ds
+send_is now delay line ds e =
+    ap (λ (t : ℕ). changed line.port (λ d. let it : Driver = record { current = d.current; pending = with_new d.pending t line.value } in it) ds) e
+
+pub changed_rise : (low n : ℕ) (value : Level) (delay : ℕ) (ds : List Driver) → low ≤ delay → AllRise low ds → AllRise low (changed n (send 0 Transport value delay) ds)
+changed_rise low n value delay [] le h = tt
+changed_rise low zero value delay (d ∷ ds) le h = (with_new_rises low (0 + delay) value d.pending h.0 (omega arith), h.1)
+changed_rise low (suc n) value delay (d ∷ ds) le h = (h.0, changed_rise low n value delay ds le h.1)
+
+idle_rise : (ports : List PortBit) → AllRise 0 (idle_drivers ports)
+idle_rise [] = tt
+idle_rise (p ∷ ports) = (tt, idle_rise ports)
+
+sent_rise : (lines : List StimLine) (ds : List Driver) → AllRise 0 ds → AllRise 0 (sent_to lines ds)
+sent_rise [] ds h = h
+sent_rise (line ∷ lines) ds h = sent_rise lines (changed line.port (send 0 Transport line.value line.time) ds) (changed_rise 0 line.port line.value line.time ds (omega arith) h)
+
+-- after the initial run each driver's transactions rise
+pub all_rise_sent : (lines : List StimLine) (ports : List PortBit) → AllRise 0 (sent_to lines (idle_drivers ports))
+all_rise_sent lines ports = sent_rise lines (idle_drivers ports) (idle_rise ports)
+
 pub length-sent : (lines : List StimLine) (ds : List Driver) → length (sent_to lines ds) ≡ length ds
 length-sent [] ds = refl
 length-sent (line ∷ lines) ds = length-sent lines (changed line.port (send 0 Transport line.value line.time) ds) ∙ length-changed line.port (send 0 Transport line.value line.time) ds
 
-pub length-started : (stimuli : Stimuli) → length (sent_to stimuli.lines (idle_drivers stimuli.ports)) ≡ length stimuli.ports
-length-started stimuli = length-sent stimuli.lines (idle_drivers stimuli.ports) ∙ length-map stimuli.ports idle_driver
+-- ---- what drivers are worth
+
+pub current-changed : (n : ℕ) (now : ℕ) (value : Level) (delay : ℕ) (ds : List Driver) → currents (changed n (send now Transport value delay) ds) ≡ currents ds
+current-changed n now value delay [] = refl
+current-changed zero now value delay (d ∷ ds) = refl
+current-changed (suc n) now value delay (d ∷ ds) = ap (λ (vs : List Level). d.current ∷ vs) (current-changed n now value delay ds)
+
+-- no stimulus changes the value of a driver
+pub current-sent : (lines : List StimLine) (ds : List Driver) → currents (sent_to lines ds) ≡ currents ds
+current-sent [] ds = refl
+current-sent (line ∷ lines) ds = current-sent lines (changed line.port (send 0 Transport line.value line.time) ds) ∙ current-changed line.port 0 line.value line.time ds
+
+pub current-idle : (values : List Level) → currents (map idle values) ≡ values
+current-idle [] = refl
+current-idle (value ∷ values) = ap (λ (vs : List Level). value ∷ vs) (current-idle values)
+
+-- a driver with the first value of each port
+pub idle-ports : (ports : List PortBit) → map idle (map initial_level ports) ≡ idle_drivers ports
+idle-ports [] = refl
+idle-ports (p ∷ ports) = ap (λ (ds : List Driver). idle_driver p ∷ ds) (idle-ports ports)
+
+-- nothing is pending of them
+pub count-idle : (ports : List PortBit) → pending_count (idle_drivers ports) ≡ 0
+count-idle [] = refl
+count-idle (p ∷ ports) = omega (arith, count-idle ports)
+
+-- ---- line after line
+
+-- some lines are left, and all lines together send this
+pub record Sent (left : List StimLine) (whole : List Driver) (start content : Content) : Type 0 where
+  pub now : content.now ≡ start.now
+  pub sent : sent_to left content.drivers ≡ whole
+  pub come : ComeFrom (length content.drivers) content.now left
+  pub same : currents content.drivers ≡ currents start.drivers
+
+-- one line more is sent
+pub sends : (lines : List StimLine) (i : ℕ) (none : StimLine) (delay : ℕ) (whole : List Driver) (start old new : Content) → i < length lines
+    → new ≡ assigned (get_or lines i none).port Transport (get_or lines i none).value delay old → delay ≡ (get_or lines i none).time - old.now → Sent (drop i lines) whole start old → Sent (drop (i + 1) lines) whole start new
+sends lines i none delay whole start old new lt is delay_is had =
+    let line = get_or lines i none in
+    let left = drop (i + 1) lines in
+    let come = rw (drop_more lines i none lt) at had.come in
+    let drivers : new.drivers ≡ changed line.port (send 0 Transport line.value line.time) old.drivers =
+    ap (λ (c : Content). c.drivers) is ∙ send_is old.now delay line old.drivers (omega (arith, delay_is, come.1)) in
+    let now : new.now ≡ old.now = ap (λ (c : Content). c.now) is in
+    let long : length new.drivers ≡ length old.drivers = ap length drivers ∙ length-changed line.port (send 0 Transport line.value line.time) old.drivers in
+    record {
+      now = now ∙ had.now;
+      sent = ap (sent_to left) drivers ∙ sym (ap (λ (ls : List StimLine). sent_to ls old.drivers) (drop_more lines i none lt)) ∙ had.sent;
+      come = rw (long, now) (come_lower (length old.drivers) old.now line.time left come.1 come.3);
+      same = ap currents drivers ∙ current-changed line.port 0 line.value line.time old.drivers ∙ had.same;
+    }

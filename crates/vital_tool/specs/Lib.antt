@@ -1,4 +1,3 @@
-pub mod Driver
 pub mod Run
 pub mod Play
 pub mod Status

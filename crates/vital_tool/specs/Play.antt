@@ -1,5 +1,5 @@
 -- The signals of stimuli alone: each port is a signal with one driver.
-use Rattle.std.specs.Prelude.{ℕ, zero, suc, List, [], ◌∷◌, map, None, unwrap_or}
+use Rattle.std.specs.Prelude.{List, [], ◌∷◌, map, None, unwrap_or}
 use Rattle.vital_base.specs.declared.kind.Kind.TheVariants.{Transport}
 use Rattle.vital_base.specs.declared.ports.PortBit.{PortBit}
 use Rattle.vital_logic.specs.Levels.{level_of}
@@ -7,7 +7,8 @@ use Rattle.vital_logic.specs.declared.level.Level.{Level}
 use Rattle.vital_logic.specs.declared.level.Level.TheVariants.{U}
 use Rattle.vital_stim.specs.declared.stimuli.StimLine.{StimLine}
 use Rattle.vital_stim.specs.declared.stimuli.Stimuli.{Stimuli}
-use Rattle.vital_tool.specs.Driver.{Driver, send}
+use Rattle.vital_agenda.specs.Driver.{Driver, send}
+use Rattle.vital_agenda.specs.Agendas.{changed}
 use Rattle.vital_tool.specs.Run.{Signal, State}
 
 -- The level that a port has at first.
@@ -28,12 +29,6 @@ port_signal port = record {
   last_value = initial_level port;
   last_event = None;
 }
-
--- A list with the item of a number changed.
-abbrev pub changed : {A : Type 0} → ℕ → (A → A) → List A → List A
-changed number change [] = []
-changed zero change (item ∷ items) = change item ∷ items
-changed (suc number) change (item ∷ items) = item ∷ changed number change items
 
 -- A stimulus is one transport assignment of its value after its time, made in the initial run.
 abbrev pub stimulated : StimLine → Signal → Signal

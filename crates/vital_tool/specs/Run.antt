@@ -3,7 +3,7 @@ use Rattle.std.specs.Prelude.{ℕ, ◌≡◌, ◌+◌, ◌==◌, nat_le, List, [
 use Rattle.std.specs.List.{flat_map}
 use Rattle.std.specs.Option.{option_and_then}
 use Rattle.vital_logic.specs.declared.level.Level.{Level}
-use Rattle.vital_tool.specs.Driver.{Driver, currents, same_level, next_time, advance}
+use Rattle.vital_agenda.specs.Driver.{Driver, currents, same_level, next_time, advance}
 
 -- A signal: the name that is printed for it, its value where nothing drives it, and its drivers in order; its value, the value
 -- before its last event (its first value where it had none), and the time of that event.

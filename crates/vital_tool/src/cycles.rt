@@ -1,81 +1,82 @@
 //! A run of stimuli alone: each port is a signal with one driver.
 
-ghost use Rattle.std.specs.Prelude.{◌≡◌, ◌-◌, ◌^◌, ◌<◌, false, length, map, All, IfOk, OnOk};
-ghost use Rattle.vital_tool.specs.Answer.{text_of};
-ghost use Rattle.vital_tool.specs.Driver.{RisesFrom, AllRise, advance, least, next_time, pending_times};
-ghost use Rattle.vital_tool.specs.Ports.{idle_drivers, sent_to, port_inits, port_lines, port_text, cycle_text, cycles_text};
-ghost use Rattle.vital_tool.specs.Run.{delta_at, up_to};
+ghost use Rattle.std.specs.Prelude.{◌≡◌, ◌==◌, ◌-◌, ◌^◌, ◌<◌, ◌≤◌, false, length};
+ghost use Rattle.std.specs.List.{prefix_len, slice_get};
+ghost use Rattle.std.specs.Option.{option_map};
+ghost use Rattle.vital_agenda.specs.Driver.{pending_count};
 ghost use Rattle.vital_report.specs.Reporters.{Prints};
+ghost use Rattle.vital_tool.specs.Answer.{text_of};
+ghost use Rattle.vital_tool.specs.Outcome.{PlayPrints};
+ghost use Rattle.vital_tool.specs.Ports.{ComeFrom, port_inits, port_lines, cycles_text, sent_to, due_lines, later_lines};
+ghost use Rattle.vital_tool.specs.Run.{delta_at, up_to};
+ghost use Rattle.vital_tool.specs.declared.cycles.PlayError.TheVariants as error;
 
-use crate::driver::{Driver, next_time, sooner};
-use std::alloc::{AllocError, Global};
+use crate::signals::Signals;
+use std::alloc::AllocError;
 use vital_base::{PortBit, Sink, Time, WriteFault};
-use vital_logic::{Level, from_byte};
 use vital_report::{Line, Printer};
-use vital_stim::{StimLine, Stimuli};
+use vital_stim::StimLine;
 
-/// The drivers of the ports of stimuli after the initial run, in which each line is assigned to the driver of its port.
-pub fn start(alloc: Global, stimuli: &Stimuli) -> Result<Vec<Driver>, AllocError>
-    requires { All (λ line. line.port < length stimuli.now.ports) stimuli.now.lines }
-    ensures { IfOk result (λ drivers. drivers.items ≡ sent_to stimuli.now.lines (idle_drivers stimuli.now.ports)) }
-{
-    let mut drivers = idle_drivers(alloc, stimuli.ports.as_slice())?;
-    send_all(&mut drivers, stimuli.lines.as_slice())?;
-    Ok(drivers)
+/// Why a run did not come to its end.
+#[derive(Clone, Copy, Debug, PartialEq, Eq)]
+pub enum PlayError {
+    /// The sink failed.
+    WriteFault,
+    /// Memory ran out.
+    NoMemory,
 }
 
-/// A driver for each port, with the port's first value.
-fn idle_drivers(alloc: Global, ports: &[PortBit]) -> Result<Vec<Driver>, AllocError>
-    ensures { IfOk result (λ drivers. drivers.items ≡ idle_drivers ports.now) }
-{
-    let mut drivers = Vec::with_capacity(alloc, ports.len())?;
-    for port in ports {
-        let current = from_byte(port.initial).unwrap_or(Level::U);
-        drivers.push(Driver::new(alloc, current))?;
+impl From<WriteFault> for PlayError {
+    ghost from_gives = { λ _ e. e ≡ error.WriteFault };
+
+    fn from(_fault: WriteFault) -> PlayError {
+        PlayError::WriteFault
     }
-    Ok(drivers)
 }
 
-/// The initial run: each line is assigned to the driver of its port.
-fn send_all(drivers: &mut [Driver], lines: &[StimLine]) -> Result<(), AllocError>
-    requires { All (λ line. line.port < length drivers.old) lines.now }
-    ensures { OnOk result (drivers.new ≡ sent_to lines.now drivers.old) }
-{
-    for line in lines {
-        drivers[line.port as usize].assign_transport(line.time, line.value)?;
+impl From<AllocError> for PlayError {
+    ghost from_gives = { λ _ e. e ≡ error.NoMemory };
+
+    fn from(_error: AllocError) -> PlayError {
+        PlayError::NoMemory
     }
-    Ok(())
 }
 
-/// Runs the drivers of the ports up to the end time, and prints the lines of the run.
+/// Runs the signals of the ports up to the end time, and prints the lines of the run. A line of the stimuli is handed to the
+/// driver of its port when the cycle at its time comes, so that little is pending at once. The run is that in which all lines
+/// are assigned in the initial run.
 pub fn play<K: Sink>(
     ports: &[PortBit],
-    drivers: &mut [Driver],
+    lines: &[StimLine],
+    signals: &mut Signals,
     until: Time,
     printer: &mut Printer<'_, K>,
-) -> Result<(), WriteFault>
-    requires one_each { length ports.now ≡ length drivers.old }
-    requires rise { AllRise 0 drivers.old }
-    ensures { Prints result (text_of (port_lines ports.now drivers.old until)) printer.old printer.new }
+) -> Result<(), PlayError>
+    requires one_each { length ports.now ≡ length signals.old.drivers }
+    requires idle { pending_count signals.old.drivers ≡ 0 }
+    requires start { signals.old.now ≡ 0 }
+    requires come { ComeFrom (length ports.now) 0 lines.now }
+    ensures { PlayPrints result (text_of (port_lines ports.now (sent_to lines.now signals.old.drivers) until)) printer.old printer.new }
 {
     printer.print(&Line::Version)?;
-    print_inits(ports, drivers, printer)?;
-    run_cycles(ports, drivers, until, printer)?;
-    printer.print(&Line::End { time: until })
+    print_inits(ports, signals, printer)?;
+    run_cycles(ports, lines, signals, until, printer)?;
+    printer.print(&Line::End { time: until })?;
+    Ok(())
 }
 
 /// Prints the value of each port.
 fn print_inits<K: Sink>(
     ports: &[PortBit],
-    drivers: &[Driver],
+    signals: &Signals,
     printer: &mut Printer<'_, K>,
 ) -> Result<(), WriteFault>
-    requires one_each { length ports.now ≡ length drivers.now }
+    requires one_each { length ports.now ≡ length signals.now.drivers }
     requires goes_on { printer.old.stopped ≡ false }
-    ensures { Prints result (text_of (port_inits ports.now drivers.now)) printer.old printer.new }
+    ensures { Prints result (text_of (port_inits ports.now signals.now.drivers)) printer.old printer.new }
 {
     for i in 0..ports.len() {
-        let value = drivers[i].current();
+        let value = signals.value(i);
         printer.print(&Line::Init {
             name: &ports[i].name,
             value,
@@ -87,24 +88,56 @@ fn print_inits<K: Sink>(
 /// Runs the cycles up to the end time, and prints their events.
 fn run_cycles<K: Sink>(
     ports: &[PortBit],
-    drivers: &mut [Driver],
+    lines: &[StimLine],
+    signals: &mut Signals,
     until: Time,
     printer: &mut Printer<'_, K>,
-) -> Result<(), WriteFault>
-    requires one_each { length ports.now ≡ length drivers.old }
-    requires rise { AllRise 0 drivers.old }
+) -> Result<(), PlayError>
+    requires one_each { length ports.now ≡ length signals.old.drivers }
+    requires idle { pending_count signals.old.drivers ≡ 0 }
+    requires start { signals.old.now ≡ 0 }
+    requires come { ComeFrom (length ports.now) 0 lines.now }
     requires goes_on { printer.old.stopped ≡ false }
-    ensures { Prints result (cycles_text ports.now drivers.old until) printer.old printer.new }
+    ensures { PlayPrints result (cycles_text ports.now (sent_to lines.now signals.old.drivers) until) printer.old printer.new }
 {
     let mut now = 0;
     let mut delta = 0;
-    let mut next = next_time(drivers);
-    while let Some(time) = up_to(until, next) {
+    let mut left = lines;
+    while let Some(time) = up_to(until, first_time(left)) {
         delta = next_delta(time, now, delta);
-        next = run_cycle(ports, drivers, time, delta, printer)?;
+        let (due, later) = split_due(left, time);
+        signals.send(due)?;
+        signals.cycle(ports, time, delta, printer)?;
+        left = later;
         now = time;
     }
     Ok(())
+}
+
+/// The time of the first of some lines.
+fn first_time(lines: &[StimLine]) -> Option<Time>
+    ensures { result ≡ option_map (λ line. line.time) (slice_get lines.now 0) }
+{
+    match lines.first() {
+        Some(line) => Some(line.time),
+        None => None,
+    }
+}
+
+/// The first lines, as far as they come at a time, and those after them.
+fn split_due(lines: &[StimLine], time: Time) -> (&[StimLine], &[StimLine])
+    ensures due { result.0.now ≡ due_lines time lines.now }
+    ensures later { result.1.now ≡ later_lines time lines.now }
+{
+    lines.split_at(due_count(lines, time))
+}
+
+/// How many of the first lines come at a time.
+fn due_count(lines: &[StimLine], time: Time) -> usize
+    ensures count { result ≡ prefix_len (λ line. line.time == time) lines.now }
+    ensures within { result ≤ length lines.now }
+{
+    lines.iter().take_while(|line| line.time == time).count()
 }
 
 /// The delta number of the cycle that comes next, at a time.
@@ -123,55 +156,4 @@ fn up_to(until: Time, time: Option<Time>) -> Option<Time>
         Some(time) if time <= until => Some(time),
         _ => None,
     }
-}
-
-/// Runs one cycle: lets the transactions at its time become present values, and prints an event for each port whose value
-/// changes. The answer is the time of the next transaction of any driver, found on the same way over the ports.
-fn run_cycle<K: Sink>(
-    ports: &[PortBit],
-    drivers: &mut [Driver],
-    time: Time,
-    delta: u64,
-    printer: &mut Printer<'_, K>,
-) -> Result<Option<Time>, WriteFault>
-    requires one_each { length ports.now ≡ length drivers.old }
-    requires rise { AllRise time drivers.old }
-    requires goes_on { printer.old.stopped ≡ false }
-    ensures after { OnOk result (drivers.new ≡ map (advance time) drivers.old) }
-    ensures next { IfOk result (λ next. next ≡ next_time (map (advance time) drivers.old)) }
-    ensures prints { Prints result
-        (cycle_text time delta ports.now drivers.old) printer.old printer.new }
-{
-    let mut next = None;
-    for i in 0..ports.len() {
-        let later = run_port(&ports[i], &mut drivers[i], time, delta, printer)?;
-        next = sooner(next, later);
-    }
-    Ok(next)
-}
-
-/// The part of one port in a cycle. The answer is the time of its driver's next transaction.
-fn run_port<K: Sink>(
-    port: &PortBit,
-    driver: &mut Driver,
-    time: Time,
-    delta: u64,
-    printer: &mut Printer<'_, K>,
-) -> Result<Option<Time>, WriteFault>
-    requires rise { RisesFrom time driver.old.pending }
-    requires goes_on { printer.old.stopped ≡ false }
-    ensures after { driver.new ≡ advance time driver.old }
-    ensures next { IfOk result (λ next. next ≡ least (pending_times driver.new)) }
-    ensures prints { Prints result (port_text time delta port.now driver.old) printer.old printer.new }
-{
-    if let Some(value) = driver.advance(time) {
-        let name = &port.name;
-        printer.print(&Line::Event {
-            time,
-            delta,
-            name,
-            value,
-        })?;
-    }
-    Ok(driver.next_time())
 }

@@ -3,13 +3,13 @@
 
 mod cells;
 mod cycles;
-mod driver;
 mod judging;
 mod lines;
 mod loading;
 mod reading;
 mod refusal;
 mod run;
+mod signals;
 mod stages;
 mod status;
 mod stimuli;

@@ -1,14 +1,17 @@
 //! Playing the stimuli of a file.
 
-ghost use Rattle.std.specs.Prelude.{◌≡◌, ◌<◌, ◌≤◌, false, length, All};
+ghost use Rattle.std.specs.Prelude.{◌≡◌, ◌^◌, ◌<◌, ◌≤◌, false, length, map, All};
+ghost use Rattle.std.specs.List.Sorted.{IsNonDecreasing};
+ghost use Rattle.vital_stim.specs.Stimuli.{Fits};
 ghost use Rattle.vital_tool.specs.Outcome.{Stage};
 ghost use Rattle.vital_tool.specs.Stimuli.{printed_why, IsStimuliAnswer, IsTextAnswer};
 
-use crate::cycles::{play, start};
+use crate::cycles::{PlayError, play};
 use crate::lines::refuse;
+use crate::signals::Signals;
 use crate::status::Status;
 use std::alloc::Global;
-use vital_base::{Name, Sink, Time, WriteFault};
+use vital_base::{Name, Sink, Time};
 use vital_report::{Line, Printer, StimulusWhy};
 use vital_stim::{StimError, StimWhy, Stimuli, read_stim};
 
@@ -45,16 +48,26 @@ fn play_stimuli<K: Sink>(
     until: Time,
     printer: &mut Printer<'_, K>,
 ) -> Status
-    requires ports { All (λ line. line.port < length stimuli.now.ports) stimuli.now.lines }
+    requires fit { All (Fits stimuli.now) stimuli.now.lines }
+    requires in_order { IsNonDecreasing (map (λ line. line.time) stimuli.now.lines) }
+    requires few { length stimuli.now.ports < 2 ^ 32 }
     requires goes_on { printer.old.stopped ≡ false }
     ensures { Stage (IsStimuliAnswer until stimuli.now) result printer.old printer.new }
 {
-    let Ok(mut drivers) = start(alloc, stimuli) else {
+    let ports = stimuli.ports.as_slice();
+    let Ok(mut signals) = Signals::new(alloc, ports) else {
         return Status::NoMemory;
     };
-    match play(stimuli.ports.as_slice(), &mut drivers, until, printer) {
+    match play(
+        ports,
+        stimuli.lines.as_slice(),
+        &mut signals,
+        until,
+        printer,
+    ) {
         Ok(()) => Status::Done,
-        Err(WriteFault) => Status::WriteFault,
+        Err(PlayError::WriteFault) => Status::WriteFault,
+        Err(PlayError::NoMemory) => Status::NoMemory,
     }
 }
 

@@ -5,9 +5,6 @@ use Rattle.vital_tool.specs.Outcome.{Stage}
 use Rattle.vital_tool.specs.Stimuli.{IsReadStimuliAnswer}
 use Rattle.vital_tool.proofs.stimuli.play_text.Goals as goal
 
-pub play_stimuli-requires-clause-ports : goal.play_stimuli-requires-clause-ports
-play_stimuli-requires-clause-ports g c = λ k d lt. (c.in-Ok.ensures.fit k d lt).there
-
 pub returns-in-Ok : goal.returns-in-Ok
 returns-in-Ok g c =
     subst (λ (read : Result Stimuli StimFault). Stage (IsReadStimuliAnswer c.args.name.now c.args.until read) c.play_stimuli.result c.args.printer.now c.play_stimuli.new.printer) (sym c.in-Ok.ensures.answer) c.play_stimuli.ensures
