@@ -1,0 +1,4 @@
+pub mod DigitLemmas
+pub mod LiteralLemmas
+pub mod NumeralLemmas
+pub mod OrderLemmas
