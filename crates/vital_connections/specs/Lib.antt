@@ -1,0 +1,5 @@
+pub mod Connections
+pub mod Objects
+pub mod Own
+pub mod Runs
+pub mod Spans
