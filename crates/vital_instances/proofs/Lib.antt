@@ -1,0 +1,12 @@
+pub mod ErrorLemmas
+pub mod JudgeLemmas
+pub mod MarkLemmas
+pub mod UnitLemmas
+pub mod ChildLemmas
+pub mod ContentLemmas
+pub mod OpenLemmas
+pub mod LevelLemmas
+pub mod EnterLemmas
+pub mod StepLemmas
+pub mod TopLemmas
+pub mod DesignLemmas

@@ -1,0 +1,9 @@
+pub mod Judges
+pub mod Faults
+pub mod Units
+pub mod GoodCells
+pub mod Children
+pub mod Contents
+pub mod Instances
+pub mod Frames
+pub mod Designs
