@@ -9,7 +9,8 @@ use Rattle.vital_base.specs.declared.ports.PortBit.{PortBit}
 use Rattle.vital_base.specs.declared.time.TimeUnit.{TimeUnit}
 use Rattle.vital_stim.specs.Entry.{stimulus, stimulus_result, stimulus_told}
 use Rattle.vital_stim.specs.KnownPorts.{as_told}
-use Rattle.vital_stim.specs.PortForm.{is_port, folded}
+use Rattle.vital_identifiers.specs.Identifiers.{folded}
+use Rattle.vital_stim.specs.PortForm.{is_port}
 use Rattle.vital_stim.specs.declared.entry.Entry.{Entry}
 use Rattle.vital_stim.specs.Parts.{fields_of, after_blanks, field_of, after_field}
 use Rattle.vital_stim.specs.Stimuli.{◌>>=◌, Stimulus, value_named, stimulus_of, stimulus_after, among_given, stimulus_for}

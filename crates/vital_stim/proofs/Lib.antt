@@ -3,7 +3,6 @@ pub mod FieldLemmas
 pub mod LineLemmas
 pub mod NumberLemmas
 pub mod EntryLemmas
-pub mod RunLemmas
 pub mod Positions
 pub mod PortLemmas
 pub mod NameLemmas

@@ -8,7 +8,8 @@ use Rattle.std.proofs.lemmas.List.Folds.{list_any-append}
 use Rattle.std.proofs.lemmas.Slice.Eq.{bytes_eq-Decides}
 use Rattle.vital_base.specs.declared.ports.PortBit.{PortBit}
 use Rattle.vital_stim.specs.KnownPorts.{with_port}
-use Rattle.vital_stim.specs.PortForm.{is_port, folded}
+use Rattle.vital_identifiers.specs.Identifiers.{folded}
+use Rattle.vital_stim.specs.PortForm.{is_port}
 use Rattle.vital_stim.specs.Spellings.{Spells, Remembers}
 use Rattle.vital_stim.specs.Stimuli.{Stimulus, is_named, input_port, among_given}
 use Rattle.vital_stim.specs.declared.spellings.Spelling.{Spelling}

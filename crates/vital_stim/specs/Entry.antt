@@ -1,6 +1,7 @@
 -- What a line says, without where its bytes lie in memory.
 use Rattle.std.specs.Prelude.{List, Option, Result, Ok, Err, if◌then◌else◌}
-use Rattle.vital_stim.specs.PortForm.{is_port, folded}
+use Rattle.vital_identifiers.specs.Identifiers.{folded}
+use Rattle.vital_stim.specs.PortForm.{is_port}
 use Rattle.vital_base.specs.declared.ports.PortBit.{PortBit}
 use Rattle.vital_stim.specs.Stimuli.{◌>>=◌, Stimulus, among_given}
 use Rattle.vital_stim.specs.declared.entry.Entry.{Entry}

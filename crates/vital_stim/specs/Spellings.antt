@@ -2,7 +2,8 @@
 use Rattle.std.specs.Prelude.{◌≡◌, ℕ, true, List, Option, Ok, IfSome, All}
 use Rattle.std.specs.List.{position_or_len, list_any}
 use Rattle.vital_base.specs.declared.ports.PortBit.{PortBit}
-use Rattle.vital_stim.specs.PortForm.{is_port, folded}
+use Rattle.vital_identifiers.specs.Identifiers.{folded}
+use Rattle.vital_stim.specs.PortForm.{is_port}
 use Rattle.vital_stim.specs.Stimuli.{Stimulus, is_named, among_given}
 use Rattle.vital_stim.specs.declared.spellings.Spellings.{Spellings}
 

@@ -10,7 +10,8 @@ use Rattle.vital_logic.specs.Levels.{level_of, byte_of}
 use Rattle.vital_logic.specs.declared.level.Level.{Level}
 use Rattle.vital_logic.specs.declared.level.Level.TheVariants.{U}
 use Rattle.vital_stim.specs.Parts.{lines_of, fields_of, is_passed_over}
-use Rattle.vital_stim.specs.PortForm.{is_port, folded}
+use Rattle.vital_identifiers.specs.Identifiers.{folded}
+use Rattle.vital_stim.specs.PortForm.{is_port}
 use Rattle.vital_stim.specs.declared.fault.StimWhy.{StimWhy}
 use Rattle.vital_stim.specs.declared.fault.StimWhy.TheVariants.{Line, Unit as UnknownUnit, Large, Value, Falls, UnknownPort, NotInput}
 use Rattle.vital_stim.specs.declared.fault.StimFault.{StimFault}

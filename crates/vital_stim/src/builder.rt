@@ -2,7 +2,7 @@
 
 ghost use Rattle.std.specs.Prelude.{◌≡◌, ◌+◌, ◌<◌, ◌≤◌, ◌^◌, List, [], ◌∷◌, ◌++◌, length, Option, OnOk, IfOk, IfSome};
 ghost use Rattle.vital_base.specs.declared.ports.PortBit.{PortBit as PortBit'};
-ghost use Rattle.vital_stim.specs.PortForm.{folded};
+ghost use Rattle.vital_identifiers.specs.Identifiers.{folded};
 ghost use Rattle.vital_stim.specs.Stimuli.{Stimulus, lent, with_ports};
 ghost use Rattle.vital_stim.specs.Entry.{stimulus, stimulus_told};
 ghost use Rattle.vital_stim.specs.KnownPorts.{as_told};

@@ -1,7 +1,7 @@
 use Rattle.std.proofs.Common.{◌≡◌, List, [], ◌∷◌, ◌++◌, refl, sym, ◌∙◌, ap, subst, Ok}
 use Rattle.std.specs.List.{position_or_len}
 use Rattle.vital_stim.specs.Entry.{stimulus}
-use Rattle.vital_stim.specs.PortForm.{folded}
+use Rattle.vital_identifiers.specs.Identifiers.{folded}
 use Rattle.vital_stim.specs.KnownPorts.{ports_in, with_port, as_told}
 use Rattle.vital_stim.specs.Spellings.{Remembers}
 use Rattle.vital_stim.specs.declared.stimuli.StimLine.{StimLine}

@@ -6,7 +6,7 @@ use Rattle.std.specs.List.{list_all, slice_split, onto_first}
 use Rattle.std.proofs.Math.Seq.{drop-length}
 use Rattle.std.proofs.lemmas.Bool.{eqb-true, lt-ltb, true≢false, false_from_ne_true}
 use Rattle.std.proofs.lemmas.List.Splits.{slice_split-cons_yes, slice_split-cons_no}
-use Rattle.vital_stim.specs.PortForm.{is_underscore, is_run}
+use Rattle.vital_identifiers.specs.Identifiers.{is_underscore, is_run}
 
 -- are these runs, where the last byte before them was in a run or not?
 abbrev pub runs : Bool → List ℕ → Bool

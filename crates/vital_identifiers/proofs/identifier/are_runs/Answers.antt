@@ -1,7 +1,7 @@
 use Rattle.std.proofs.Common.{sym, ◌∙◌, arith, inl, inr}
-use Rattle.vital_stim.proofs.RunLemmas.{runs-all, runs-end, runs-bad}
-use Rattle.vital_stim.proofs.port_form.are_runs.Goals as goal
-use Rattle.vital_stim.proofs.port_form.are_runs.Goals.{else-in_run-via-then-in_run+else-byte-eq95, else-in_run-via-else-in_run}
+use Rattle.vital_identifiers.proofs.RunLemmas.{runs-all, runs-end, runs-bad}
+use Rattle.vital_identifiers.proofs.identifier.are_runs.Goals as goal
+use Rattle.vital_identifiers.proofs.identifier.are_runs.Goals.{else-in_run-via-then-in_run+else-byte-eq95, else-in_run-via-else-in_run}
 
 pub returns-else-in_run : goal.returns-else-in_run
 returns-else-in_run c =
