@@ -4,6 +4,7 @@
 
 mod connections;
 mod extent;
+mod laws;
 mod object;
 mod own;
 mod run;
@@ -12,6 +13,7 @@ mod spans;
 
 pub use connections::Connections;
 pub use extent::{first_of, index_at, length_of};
+pub use laws::associations_are_apart;
 pub use object::{Object, objects_of_signals};
 pub use run::{Run, put_run, whole_run};
 pub use span::{Connected, Span};
