@@ -1,6 +1,7 @@
 -- There is one judge of cells.
 use Rattle.std.proofs.Common.{◌≡◌, Some, None, refl, sym, ap, ◌∙◌, inl, inr}
 use Rattle.std.specs.Prelude.{Option}
+use Rattle.std.proofs.Math.Path.{fun_ext}
 use Rattle.vital_base.specs.declared.breach.Breach.{Breach}
 use Rattle.vital_level0.specs.Breaches.{HasOneFirst}
 use Rattle.vital_level1.specs.Breaches.{first_breach}
@@ -74,3 +75,7 @@ judge_by one c = by_limit (cell_limit c) (level_found one c)
 pub judges : (one : HasOneFirst) → IsJudge (judge_by one)
 unfolding judge_by
 judges one c = found-is c (cell_limit c) (level_found one c) refl (is_level one c)
+
+-- there is no other judge
+pub same-judge : HasOneFirst → (a b : Judge) → IsJudge a → IsJudge b → a ≡ b
+same-judge one a b is also = fun_ext (λ c. said-of one c (b c) (also c) a is)

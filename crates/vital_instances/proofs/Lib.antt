@@ -10,3 +10,4 @@ pub mod EnterLemmas
 pub mod StepLemmas
 pub mod TopLemmas
 pub mod DesignLemmas
+pub mod FilledLemmas

