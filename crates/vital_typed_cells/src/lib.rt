@@ -9,6 +9,7 @@ mod typed_cell;
 mod typed_packages;
 mod wire;
 
+pub use bit_numbers::BitNumbers;
 pub use process::CellProcess;
 pub use typed_cell::{TypedCell, read_typed_cell};
 pub use typed_packages::TypedPackages;
