@@ -1,0 +1,12 @@
+pub mod BitLemmas
+pub mod ChildLemmas
+pub mod ConnectionLemmas
+pub mod FindLemmas
+pub mod ListLemmas
+pub mod NetLemmas
+pub mod NetlistLemmas
+pub mod OrderLemmas
+pub mod ShapeLemmas
+pub mod SignalLemmas
+pub mod TableLemmas
+pub mod UnitLemmas
