@@ -1,0 +1,5 @@
+pub mod NameLemmas
+pub mod LabelLemmas
+pub mod CountLemmas
+pub mod SoundLemmas
+mod Rows
