@@ -1,0 +1,16 @@
+pub mod Lists
+pub mod Children
+pub mod NetObjects
+pub mod UnitFacts
+pub mod Bits
+pub mod Nets
+pub mod LabelsRead
+pub mod UnitsRead
+pub mod NamesRead
+pub mod UnitNames
+pub mod PortNames
+pub mod DesignCells
+pub mod SignalParts
+pub mod Wiring
+pub mod TopPorts
+pub mod FewSignals
