@@ -1,0 +1,9 @@
+pub mod ListLemmas
+pub mod NumberLemmas
+pub mod BitLemmas
+pub mod DriverLemmas
+pub mod WiringLemmas
+pub mod PartLemmas
+pub mod CountLemmas
+pub mod PortLemmas
+pub mod DesignLemmas
