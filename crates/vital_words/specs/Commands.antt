@@ -1,25 +1,31 @@
 -- The commands, and how each takes its keys.
-use Rattle.std.specs.Prelude.{ℕ, List, [], ◌∷◌, Option, Some, None, true, codes, if◌then◌else◌}
+use Rattle.std.specs.Prelude.{ℕ, List, [], ◌∷◌, Option, Some, None, true, false, codes, if◌then◌else◌}
 use Rattle.std.specs.Str.{bytes_eq}
 use Rattle.vital_words.specs.declared.command.Command.{Command}
-use Rattle.vital_words.specs.declared.command.Command.TheVariants.{Play, Check}
+use Rattle.vital_words.specs.declared.command.Command.TheVariants.{Play, Check, Tree}
 use Rattle.vital_words.specs.declared.command.KeyRule.{KeyRule}
-use Rattle.vital_words.specs.declared.key.FileKind.TheVariants.{Lib, Stim}
+use Rattle.vital_words.specs.declared.key.FileKind.TheVariants.{Lib, Net, Stim}
 use Rattle.vital_words.specs.declared.key.Key.{Key}
-use Rattle.vital_words.specs.declared.key.Key.TheVariants.{File, Until}
+use Rattle.vital_words.specs.declared.key.Key.TheVariants.{File, Until, Top}
 
 -- The command that is written so.
 abbrev pub command_named : List ℕ → Option Command
 command_named word =
     if bytes_eq word (codes "play") then Some Play
     else if bytes_eq word (codes "check") then Some Check
+    else if bytes_eq word (codes "tree") then Some Tree
     else None
 
 -- A key that must come, and may come so often.
 abbrev pub required : Key → ℕ → KeyRule
 required key most = record { key = key; most = most; is_required = true }
 
+-- A key that need not come, and may come so often.
+abbrev pub optional : Key → ℕ → KeyRule
+optional key most = record { key = key; most = most; is_required = false }
+
 -- How a command takes its keys.
 abbrev pub rules_of : Command → List KeyRule
 rules_of Play = required (File Stim) 1 ∷ required Until 1 ∷ []
 rules_of Check = required (File Lib) 16 ∷ []
+rules_of Tree = required (File Lib) 16 ∷ optional (File Net) 1 ∷ required Top 1 ∷ []

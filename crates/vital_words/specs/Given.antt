@@ -5,7 +5,7 @@ use Rattle.vital_words.specs.declared.job.JobError.{JobError}
 use Rattle.vital_words.specs.declared.job.JobError.TheVariants.{Usage, NoMemory}
 use Rattle.vital_words.specs.declared.job.NamedFile.{NamedFile}
 use Rattle.vital_words.specs.declared.job.Task.{Task}
-use Rattle.vital_words.specs.declared.job.Task.TheVariants.{Play, Check}
+use Rattle.vital_words.specs.declared.job.Task.TheVariants.{Play, Check, Tree}
 use Rattle.vital_words.specs.declared.refusal.UsageFault.{UsageFault}
 
 -- What was returned is the defined job or fault, unless memory ran out.
@@ -18,6 +18,7 @@ GivesJob (Err NoMemory) defined = Unit {0}
 abbrev pub AreIn : List NamedFile → Task → Type 0
 AreIn files (Play play) = play.stim < length files
 AreIn files Check = Unit {0}
+AreIn files (Tree tree) = Unit {0}
 
 -- The files that the task of a job names by number are among its files.
 abbrev pub NamesIn : Job → Type 0

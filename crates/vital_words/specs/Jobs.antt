@@ -1,6 +1,8 @@
 -- What the words of a command line ask for.
 use Rattle.std.specs.Prelude.{ℕ, Bool, true, false, List, [], ◌∷◌, position, Option, Some, None, Result, Ok, Err}
 use Rattle.std.specs.List.{filter_map}
+use Rattle.std.specs.Option.{option_map}
+use Rattle.vital_identifiers.specs.Identifiers.{folded}
 use Rattle.vital_words.specs.Commands.{command_named, rules_of}
 use Rattle.vital_words.specs.Keys.{◌>>=◌, value_in, value_of, end_time}
 use Rattle.vital_words.specs.Refusals.{first_fault, missing}
@@ -9,20 +11,27 @@ use Rattle.vital_words.specs.declared.command.Command.TheVariants as command
 use Rattle.vital_words.specs.declared.command.KeyRule.{KeyRule}
 use Rattle.vital_words.specs.declared.job.Job.{Job}
 use Rattle.vital_words.specs.declared.job.NamedFile.{NamedFile}
+use Rattle.vital_words.specs.declared.job.Play.{Play}
 use Rattle.vital_words.specs.declared.job.Task.{Task}
-use Rattle.vital_words.specs.declared.job.Task.TheVariants.{Play, Check}
+use Rattle.vital_words.specs.declared.job.Task.TheVariants as task
+use Rattle.vital_words.specs.declared.job.Tree.{Tree}
 use Rattle.vital_words.specs.declared.key.FileKind.{FileKind}
-use Rattle.vital_words.specs.declared.key.FileKind.TheVariants.{Lib, Stim}
+use Rattle.vital_words.specs.declared.key.FileKind.TheVariants.{Lib, Net, Stim}
 use Rattle.vital_words.specs.declared.key.Key.{Key}
-use Rattle.vital_words.specs.declared.key.Key.TheVariants.{File, Until}
+use Rattle.vital_words.specs.declared.key.Key.TheVariants.{File, Until, Top}
 use Rattle.vital_words.specs.declared.refusal.UsageFault.{UsageFault}
 use Rattle.vital_words.specs.declared.refusal.UsageWhy.TheVariants as why
 
+-- The file that a value names, where its key is one for files.
+abbrev pub file_of : Key → List ℕ → Option NamedFile
+file_of (File kind) name = Some (record { kind = kind; name = name })
+file_of Until value = None
+file_of Top value = None
+
 -- The file that a word names by this key, where it gives a value to it, or else by another key.
 abbrev pub file_or : Key → Option (List ℕ) → Option NamedFile → Option NamedFile
-file_or (File kind) (Some name) others = Some (record { kind = kind; name = name })
-file_or (File kind) None others = others
-file_or Until value others = others
+file_or key None others = others
+file_or key (Some value) others = file_of key value
 
 -- The file that a word names, where its key is one for files.
 abbrev pub file_in : List KeyRule → List ℕ → Option NamedFile
@@ -31,20 +40,32 @@ file_in (rule ∷ rules) word = file_or rule.key (value_in rule.key word) (file_
 
 abbrev pub is_stim_kind : FileKind → Bool
 is_stim_kind Lib = false
+is_stim_kind Net = false
 is_stim_kind Stim = true
 
 -- Is it a stimulus file?
 abbrev pub is_stim : NamedFile → Bool
 is_stim file = is_stim_kind file.kind
 
--- What a command does with these files, which the words after it name.
-abbrev pub task_of : Command → List NamedFile → List (List ℕ) → Option Task
-task_of command.Play files words = do
+-- What `play` plays of these files, which the words after it name.
+abbrev pub play_of : List NamedFile → List (List ℕ) → Option Play
+play_of files words = do
   stim ← position is_stim files
   value ← value_of Until words
   until ← end_time value
-  Some (Play (record { stim = stim; until = until }))
-task_of command.Check files words = Some Check
+  Some (record { stim = stim; until = until })
+
+-- What `tree` prints, by the words after it.
+abbrev pub tree_of : List (List ℕ) → Option Tree
+tree_of words = do
+  top ← value_of Top words
+  Some (record { top = folded top })
+
+-- What a command does with these files, which the words after it name.
+abbrev pub task_of : Command → List NamedFile → List (List ℕ) → Option Task
+task_of command.Play files words = option_map task.Play (play_of files words)
+task_of command.Check files words = Some task.Check
+task_of command.Tree files words = option_map task.Tree (tree_of words)
 
 -- The job of these files, or a fault.
 abbrev pub job_or : List NamedFile → UsageFault → Option Task → Result Job UsageFault

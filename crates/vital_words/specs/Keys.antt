@@ -5,10 +5,11 @@ use Rattle.std.specs.List.{list_all, filter_map}
 use Rattle.std.specs.Option.{is_some, option_map}
 use Rattle.std.specs.Str.{bytes_eq}
 use Rattle.vital_base.specs.Times.{number_of, unit_named, time_of}
+use Rattle.vital_identifiers.specs.Identifiers.{is_basic_identifier}
 use Rattle.vital_words.specs.declared.key.FileKind.{FileKind}
-use Rattle.vital_words.specs.declared.key.FileKind.TheVariants.{Lib, Stim}
+use Rattle.vital_words.specs.declared.key.FileKind.TheVariants.{Lib, Net, Stim}
 use Rattle.vital_words.specs.declared.key.Key.{Key}
-use Rattle.vital_words.specs.declared.key.Key.TheVariants.{File, Until}
+use Rattle.vital_words.specs.declared.key.Key.TheVariants.{File, Until, Top}
 
 infixl 10 ◌>>=◌
 abbrev pub ◌>>=◌ : {A B : Type 0} → Option A → (A → Option B) → Option B
@@ -30,17 +31,20 @@ end_time value = do
 -- How the key of a file is written.
 abbrev pub file_key : FileKind → List ℕ
 file_key Lib = codes "lib"
+file_key Net = codes "net"
 file_key Stim = codes "stim"
 
 -- How a key is written.
 abbrev pub name_of : Key → List ℕ
 name_of (File kind) = file_key kind
 name_of Until = codes "until"
+name_of Top = codes "top"
 
 -- Which values a key takes.
 abbrev pub is_good : Key → List ℕ → Bool
 is_good (File kind) value = is_file_name value
 is_good Until value = is_some (end_time value)
+is_good Top value = is_basic_identifier value
 
 -- The key and the value of a word, which its first `=` parts.
 abbrev pub parts : List ℕ → Option (List ℕ × List ℕ)

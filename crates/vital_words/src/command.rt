@@ -12,6 +12,8 @@ pub enum Command {
     Play,
     /// Check the cells of a library.
     Check,
+    /// Print an elaborated design.
+    Tree,
 }
 
 /// How a command takes a key.
@@ -45,6 +47,20 @@ const LIB: KeyRule = KeyRule {
     is_required: true,
 };
 
+/// The file of a netlist.
+const NET: KeyRule = KeyRule {
+    key: Key::File(FileKind::Net),
+    most: 1,
+    is_required: false,
+};
+
+/// The top of a design.
+const TOP: KeyRule = KeyRule {
+    key: Key::Top,
+    most: 1,
+    is_required: true,
+};
+
 impl Command {
     /// The command that is written so.
     pub fn named(word: &[u8]) -> Option<Command>
@@ -53,6 +69,7 @@ impl Command {
         match word {
             b"play" => Some(Command::Play),
             b"check" => Some(Command::Check),
+            b"tree" => Some(Command::Tree),
             _ => None,
         }
     }
@@ -64,6 +81,7 @@ impl Command {
         match self {
             Command::Play => &[STIM, UNTIL],
             Command::Check => &[LIB],
+            Command::Tree => &[LIB, NET, TOP],
         }
     }
 }

@@ -3,7 +3,7 @@
 ghost use Rattle.std.specs.Prelude.{◌≡◌, ◌≤◌, ◌<◌, length, position, List as List', IfOk, IfSome, Ok};
 ghost use Rattle.std.specs.List.{filter_map};
 ghost use Rattle.std.specs.Option.{option_map};
-ghost use Rattle.vital_words.specs.Jobs.{file_in, is_stim, task_of, job_of, job};
+ghost use Rattle.vital_words.specs.Jobs.{file_of, file_in, is_stim, play_of, tree_of, task_of, job_of, job};
 ghost use Rattle.vital_words.specs.Given.{GivesJob, NamesIn};
 ghost use Rattle.vital_words.specs.declared.job.JobError.TheVariants.{NoMemory};
 
@@ -30,12 +30,14 @@ pub struct NamedFile {
 }
 
 /// What is done with the files of a job.
-#[derive(Clone, Copy, Debug)]
+#[derive(Debug, Drop)]
 pub enum Task {
     /// Their stimuli are played.
     Play(Play),
     /// The cells of their library are checked.
     Check,
+    /// The design that they make is printed.
+    Tree(Tree),
 }
 
 /// What `play` plays.
@@ -45,6 +47,13 @@ pub struct Play {
     pub stim: usize,
     /// The end time, in femtoseconds.
     pub until: Time,
+}
+
+/// What `tree` prints.
+#[derive(Debug, Drop)]
+pub struct Tree {
+    /// The name of the top of the design, in small letters.
+    pub top: Name,
 }
 
 /// Why there is no job.
@@ -65,7 +74,7 @@ impl From<AllocError> for JobError {
 /// What the words ask for, or the first fault from left to right; or want of memory.
 pub fn read_job(alloc: Global, words: &[Word]) -> Result<Job, JobError>
     ensures job { GivesJob result (job words.now) }
-    ensures few_files { IfOk result (λ found. length found.files ≤ 16) }
+    ensures few_files { IfOk result (λ found. length found.files ≤ 17) }
     ensures names_in { IfOk result NamesIn }
 {
     let refused = Err(JobError::Usage(UsageFault {
@@ -84,7 +93,7 @@ pub fn read_job(alloc: Global, words: &[Word]) -> Result<Job, JobError>
 /// What the words after a command ask for.
 fn job_of(alloc: Global, command: Command, words: &[Word]) -> Result<Job, JobError>
     ensures job { GivesJob result (job_of command words.now) }
-    ensures few_files { IfOk result (λ found. length found.files ≤ 16) }
+    ensures few_files { IfOk result (λ found. length found.files ≤ 17) }
     ensures names_in { IfOk result NamesIn }
 {
     let rules = command.rules();
@@ -92,7 +101,7 @@ fn job_of(alloc: Global, command: Command, words: &[Word]) -> Result<Job, JobErr
         return Err(JobError::Usage(fault));
     }
     let files = files_in(alloc, rules, words)?;
-    match task_of(command, &files, words) {
+    match task_of(alloc, command, &files, words)? {
         Some(task) => Ok(Job {
             files: List::new(files),
             task,
@@ -122,27 +131,60 @@ fn file_in<'a>(rules: &[KeyRule], word: &'a [u8]) -> Option<(FileKind, &'a [u8])
     ensures { option_map (λ file. record { kind = file.0; name = file.1.now }) result ≡ file_in rules.now word.now }
 {
     for rule in rules {
-        if let Key::File(kind) = rule.key {
-            if let Some(name) = rule.key.value_in(word) {
-                return Some((kind, name));
-            }
+        if let Some(value) = rule.key.value_in(word) {
+            return file_of(rule.key, value);
         }
     }
     None
 }
 
+/// The kind and the name of the file that a value names, where its key is one for files.
+fn file_of<'a>(key: Key, value: &'a [u8]) -> Option<(FileKind, &'a [u8])>
+    ensures { option_map (λ file. record { kind = file.0; name = file.1.now }) result ≡ file_of key value.now }
+{
+    match key {
+        Key::File(kind) => Some((kind, value)),
+        Key::Until | Key::Top => None,
+    }
+}
+
 /// What a command does with these files, which the words after it name.
-fn task_of(command: Command, files: &[NamedFile], words: &[Word]) -> Option<Task>
-    ensures task { result ≡ task_of command files.now words.now }
-    ensures names_in { IfSome result (λ task. NamesIn (record { files = files.now; task = task })) }
+fn task_of(
+    alloc: Global,
+    command: Command,
+    files: &[NamedFile],
+    words: &[Word],
+) -> Result<Option<Task>, AllocError>
+    ensures task { IfOk result (λ found. found ≡ task_of command files.now words.now) }
+    ensures names_in { IfOk result (λ found. IfSome found (λ task. NamesIn (record { files = files.now; task = task }))) }
 {
     match command {
-        Command::Play => {
-            let stim = first_stim(files)?;
-            let until = end_time(Key::Until.value(words)?)?;
-            Some(Task::Play(Play { stim, until }))
+        Command::Play => Ok(play_of(files, words).map(Task::Play)),
+        Command::Check => Ok(Some(Task::Check)),
+        Command::Tree => Ok(tree_of(alloc, words)?.map(Task::Tree)),
+    }
+}
+
+/// What `play` plays.
+fn play_of(files: &[NamedFile], words: &[Word]) -> Option<Play>
+    ensures play { result ≡ play_of files.now words.now }
+    ensures stim { IfSome result (λ play. play.stim < length files.now) }
+{
+    let stim = first_stim(files)?;
+    let until = end_time(Key::Until.value(words)?)?;
+    Some(Play { stim, until })
+}
+
+/// What `tree` prints.
+fn tree_of(alloc: Global, words: &[Word]) -> Result<Option<Tree>, AllocError>
+    ensures { IfOk result (λ found. found ≡ tree_of words.now) }
+{
+    match Key::Top.value(words) {
+        Some(top) => {
+            let top = Name::new(top.to_ascii_lowercase(alloc)?);
+            Ok(Some(Tree { top }))
         }
-        Command::Check => Some(Task::Check),
+        None => Ok(None),
     }
 }
 

@@ -7,6 +7,7 @@ ghost use Rattle.std.specs.Option.{option_map, option_copied};
 ghost use Rattle.vital_words.specs.Keys.{name_of, file_key, is_good, is_file_name, end_time, parts, value_in, is_for, value_of};
 
 use vital_base::{Time, TimeUnit, Word, read_number};
+use vital_identifiers::is_basic_identifier;
 
 /// How many bytes the name of a file may have.
 const LONGEST_FILE_NAME: usize = 4_096;
@@ -16,6 +17,8 @@ const LONGEST_FILE_NAME: usize = 4_096;
 pub enum FileKind {
     /// VHDL of a cell library.
     Lib,
+    /// VHDL of a netlist.
+    Net,
     /// Stimuli.
     Stim,
 }
@@ -27,6 +30,8 @@ pub enum Key {
     File(FileKind),
     /// The end time.
     Until,
+    /// The name of the top of a design.
+    Top,
 }
 
 impl Key {
@@ -37,6 +42,7 @@ impl Key {
         match self {
             Key::File(kind) => file_key(kind),
             Key::Until => b"until",
+            Key::Top => b"top",
         }
     }
 
@@ -47,6 +53,7 @@ impl Key {
         match self {
             Key::File(_) => is_file_name(value),
             Key::Until => end_time(value).is_some(),
+            Key::Top => is_basic_identifier(value),
         }
     }
 
@@ -91,6 +98,7 @@ fn file_key(kind: FileKind) -> &'static [u8]
 {
     match kind {
         FileKind::Lib => b"lib",
+        FileKind::Net => b"net",
         FileKind::Stim => b"stim",
     }
 }

@@ -44,19 +44,108 @@ const REFUSED: [(&[&str], u64, UsageWhy); 17] = [
     (&["check"], 2, UsageWhy::Missing),
 ];
 
+/// Words of a design that are refused, with the number of the first that is.
+const NO_DESIGN: [(&[&str], u64, UsageWhy); 14] = [
+    (&["Tree", "lib=a", "top=n"], 1, UsageWhy::Command),
+    (&["tree", "lib=a", "top=n", "until=1ns"], 4, UsageWhy::Key),
+    (&["tree", "top=n", "stim=s"], 3, UsageWhy::Key),
+    (&["check", "lib=a", "net=n"], 3, UsageWhy::Key),
+    (&["check", "lib=a", "top=n"], 3, UsageWhy::Key),
+    (&["tree", "net=a", "lib=b", "net="], 4, UsageWhy::Twice),
+    (&["tree", "top=n", "top=n"], 3, UsageWhy::Twice),
+    (&["tree", "net="], 2, UsageWhy::Value),
+    (&["tree", "top="], 2, UsageWhy::Value),
+    (&["tree", "top=1a"], 2, UsageWhy::Value),
+    (&["tree", "top=a_"], 2, UsageWhy::Value),
+    (&["tree", "lib=a", "net=b"], 4, UsageWhy::Missing),
+    (&["tree", "top=n", "net=b"], 4, UsageWhy::Missing),
+    (&["tree"], 2, UsageWhy::Missing),
+];
+
+/// Whether these words are refused, the first of them that is having this number.
+fn is_refused(alloc: Global, words: &[&str], word: u64, why: UsageWhy) -> Result<bool, AllocError> {
+    let words = words_of(alloc, words)?;
+    let fault = UsageFault { word, why };
+    Ok(matches!(read_job(alloc, &words), Err(JobError::Usage(found)) if found == fault))
+}
+
 #[test]
 fn words_are_refused(rt: HostRuntime) -> Result<(), Fail> {
     for (words, word, why) in REFUSED.iter() {
-        let words = words_of(rt.alloc(), words)?;
-        let fault = UsageFault {
-            word: *word,
-            why: *why,
-        };
         assert!(rt;
-            matches!(read_job(rt.alloc(), &words), Err(JobError::Usage(found)) if found == fault),
-            "at {fault:?}"
+            is_refused(rt.alloc(), words, *word, *why)?,
+            "at {word} {why:?}"
         );
     }
+    Ok(())
+}
+
+#[test]
+fn words_of_designs_are_refused(rt: HostRuntime) -> Result<(), Fail> {
+    for (words, word, why) in NO_DESIGN.iter() {
+        assert!(rt;
+            is_refused(rt.alloc(), words, *word, *why)?,
+            "at {word} {why:?}"
+        );
+    }
+    Ok(())
+}
+
+/// Words of a design, and the name of its top.
+const TOPS: [(&[&str], &str); 4] = [
+    (&["tree", "lib=a", "top=n"], "n"),
+    (&["tree", "top=Foo", "lib=a"], "foo"),
+    (&["tree", "net=b", "top=A_1B", "lib=a"], "a_1b"),
+    (&["tree", "lib=a", "top=entity"], "entity"),
+];
+
+#[test]
+fn tops_are_named_in_small_letters(rt: HostRuntime) -> Result<(), Fail> {
+    for (words, top) in TOPS.iter() {
+        let words = words_of(rt.alloc(), words)?;
+        let job = read_job(rt.alloc(), &words).map_err(|_| "refused")?;
+        assert!(rt;
+            matches!(&job.task, Task::Tree(tree) if tree.top.as_slice() == top.as_bytes()),
+            "at {top}"
+        );
+    }
+    Ok(())
+}
+
+#[test]
+fn files_of_designs_are_named(rt: HostRuntime) -> Result<(), Fail> {
+    let words = words_of(
+        rt.alloc(),
+        &["tree", "lib=ab", "net=abcd", "top=n", "lib=c"],
+    )?;
+    let job = read_job(rt.alloc(), &words).map_err(|_| "refused")?;
+    assert_eq!(rt; job.files.as_slice().len(), 3);
+    assert_eq!(rt; name_bytes(job.files.as_slice(), FileKind::Lib), 3);
+    assert_eq!(rt; name_bytes(job.files.as_slice(), FileKind::Net), 4);
+    Ok(())
+}
+
+/// The words of a design with so many files of cells, and one of a netlist.
+fn words_of_files(alloc: Global, count: u64) -> Result<Vec<Word>, AllocError> {
+    let mut words = words_of(alloc, &["tree", "net=n", "top=n"])?;
+    for _ in 0..count {
+        words.push(Word::new(Vec::from_slice(alloc, b"lib=a")?))?;
+    }
+    Ok(words)
+}
+
+#[test]
+fn a_design_has_seventeen_files_at_most(rt: HostRuntime) -> Result<(), Fail> {
+    let alloc = rt.alloc();
+    let job = read_job(alloc, &words_of_files(alloc, 16)?).map_err(|_| "refused")?;
+    assert_eq!(rt; job.files.as_slice().len(), 17);
+
+    let fault = UsageFault {
+        word: 20,
+        why: UsageWhy::Twice,
+    };
+    let words = words_of_files(alloc, 17)?;
+    assert!(rt; matches!(read_job(alloc, &words), Err(JobError::Usage(found)) if found == fault));
     Ok(())
 }
 
