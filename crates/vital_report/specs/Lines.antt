@@ -1,12 +1,13 @@
--- The lines of a run, of a check and of a refusal, as they are printed.
+-- The lines of a run, of a check, of a design and of a refusal, as they are printed.
 use Rattle.std.specs.Prelude.{ℕ, ◌==◌, Bool, true, false, List, [], ◌∷◌, ◌++◌, codes, decimal, Option, Some, None, option_map, if◌then◌else◌}
+use Rattle.std.specs.Option.{option_copied}
 use Rattle.std.specs.List.{flat_map}
 use Rattle.vital_base.specs.declared.breach.Clause.{Clause}
 use Rattle.vital_logic.specs.declared.level.Level.{Level}
 use Rattle.vital_logic.specs.Levels.{byte_of}
 use Rattle.vital_report.specs.Fields.{clause_word}
 use Rattle.vital_report.specs.declared.line.Line.{Line}
-use Rattle.vital_report.specs.declared.line.Line.TheVariants.{Version, Init, Event, End, CellLevel1, CellBroken, RefusedUsage, RefusedLexical, RefusedSyntax, RefusedLimit, RefusedLibrary, RefusedStimulus}
+use Rattle.vital_report.specs.declared.line.Line.TheVariants.{Version, Init, Event, End, CellLevel1, CellBroken, Instance, Signal, EndOfDesign, RefusedUsage, RefusedLexical, RefusedSyntax, RefusedLimit, RefusedLibrary, RefusedNetlist, RefusedCell, RefusedStimulus}
 use Rattle.vital_report.specs.declared.line.Position.{Position}
 use Rattle.vital_report.specs.declared.line.UsageWhy.{UsageWhy}
 use Rattle.vital_report.specs.declared.line.UsageWhy.TheVariants.{Command, Key, Twice, Value, Missing}
@@ -15,9 +16,11 @@ use Rattle.vital_report.specs.declared.line.StimulusWhy.TheVariants as stimulus
 use Rattle.vital_report.specs.declared.line.LexicalWhy.{LexicalWhy}
 use Rattle.vital_report.specs.declared.line.LexicalWhy.TheVariants.{Character, Unclosed}
 use Rattle.vital_report.specs.declared.line.Limit.{Limit}
-use Rattle.vital_report.specs.declared.line.Limit.TheVariants.{File, Tokens, Nesting, Units, Ports, Rows, Columns, Paths, Delay}
+use Rattle.vital_report.specs.declared.line.Limit.TheVariants.{File, Tokens, Nesting, Units, Ports, Rows, Columns, Paths, Delay, Instances, Nets, Depth}
 use Rattle.vital_report.specs.declared.line.LibraryWhy.{LibraryWhy}
 use Rattle.vital_report.specs.declared.line.LibraryWhy.TheVariants.{Duplicate, Entity}
+use Rattle.vital_report.specs.declared.line.NetlistWhy.{NetlistWhy}
+use Rattle.vital_report.specs.declared.line.NetlistWhy.TheVariants as netlist
 
 -- A place as it is printed: the name of its file as bytes, and the line and the column in it; or 0 and 0 for a whole file.
 pub record Spot : Type 0 where
@@ -33,11 +36,16 @@ pub data Said : Type 0 where
   end : (time : ℕ) → Said
   cell_level1 : (entity : List ℕ) (arch : Option (List ℕ)) → Said
   cell_broken : (entity : List ℕ) (arch : Option (List ℕ)) (clause : Clause) (at : Spot) → Said
+  instance : (path unit : List ℕ) (is_cell : Bool) → Said
+  signal : (name : List ℕ) (is_resolved : Bool) (drivers : ℕ) → Said
+  end_of_design : Said
   refused_usage : (word : ℕ) (why : UsageWhy) → Said
   refused_lexical : (why : LexicalWhy) (at : Spot) → Said
   refused_syntax : (at : Spot) → Said
   refused_limit : (limit : Limit) (at : Spot) → Said
   refused_library : (why : LibraryWhy) (at : Spot) → Said
+  refused_netlist : (why : NetlistWhy) (at : Spot) (name : Option (List ℕ)) → Said
+  refused_cell : (at : Spot) (clause : Clause) → Said
   refused_stimulus : (why : StimulusWhy) (file : List ℕ) (line : ℕ) → Said
 
 -- The place of the code.
@@ -52,11 +60,16 @@ said (Event time delta name value) = event time delta name.now value
 said (End time) = end time
 said (CellLevel1 entity arch) = cell_level1 entity.now (option_map (λ name. name.now) arch)
 said (CellBroken entity arch clause at) = cell_broken entity.now (option_map (λ name. name.now) arch) clause (spot at)
+said (Instance path unit is_cell) = instance path.now unit.now is_cell
+said (Signal name is_resolved drivers) = signal name.now is_resolved drivers
+said EndOfDesign = end_of_design
 said (RefusedUsage word why) = refused_usage word why
 said (RefusedLexical at why) = refused_lexical why (spot at)
 said (RefusedSyntax at) = refused_syntax (spot at)
 said (RefusedLimit limit at) = refused_limit limit (spot at)
 said (RefusedLibrary why at) = refused_library why (spot at)
+said (RefusedNetlist why at name) = refused_netlist why (spot at) (option_copied name)
+said (RefusedCell at clause) = refused_cell (spot at) clause
 said (RefusedStimulus why file line) = refused_stimulus why file.now line
 
 -- Is it the line of a cell?
@@ -65,6 +78,13 @@ is_of_cell (CellLevel1 entity arch) = true
 is_of_cell (CellBroken entity arch clause at) = true
 is_of_cell line = false
 
+-- Is it a line of a design?
+abbrev pub is_of_design : Line → Bool
+is_of_design (Instance path unit is_cell) = true
+is_of_design (Signal name is_resolved drivers) = true
+is_of_design EndOfDesign = true
+is_of_design line = false
+
 -- Is it the line of a refusal?
 abbrev pub is_refusal : Line → Bool
 is_refusal (RefusedUsage word why) = true
@@ -72,8 +92,16 @@ is_refusal (RefusedLexical at why) = true
 is_refusal (RefusedSyntax at) = true
 is_refusal (RefusedLimit limit at) = true
 is_refusal (RefusedLibrary why at) = true
+is_refusal (RefusedNetlist why at name) = true
+is_refusal (RefusedCell at clause) = true
 is_refusal (RefusedStimulus why file line) = true
 is_refusal line = false
+
+-- Is it the line of the refusal of a design?
+abbrev pub is_refused_design : Line → Bool
+is_refused_design (RefusedNetlist why at name) = true
+is_refused_design (RefusedCell at clause) = true
+is_refused_design line = false
 
 -- Why the words of the command line are refused, in a word.
 abbrev pub usage_word : UsageWhy → List ℕ
@@ -98,7 +126,7 @@ abbrev pub lexical_word : LexicalWhy → List ℕ
 lexical_word Character = codes "character"
 lexical_word Unclosed = codes "unclosed"
 
--- Which limit is passed, by files or by a cell, in a word.
+-- Which limit is passed, by files, by a cell or by a design, in a word.
 abbrev pub limit_word : Limit → List ℕ
 limit_word File = codes "file"
 limit_word Tokens = codes "tokens"
@@ -109,16 +137,45 @@ limit_word Rows = codes "rows"
 limit_word Columns = codes "columns"
 limit_word Paths = codes "paths"
 limit_word Delay = codes "delay"
+limit_word Instances = codes "instances"
+limit_word Nets = codes "nets"
+limit_word Depth = codes "depth"
 
 -- Why the units of a library do not go together, in a word.
 abbrev pub library_word : LibraryWhy → List ℕ
 library_word Duplicate = codes "duplicate"
 library_word Entity = codes "entity"
 
--- The name of an architecture, or `-` for none.
-abbrev pub arch_word : Option (List ℕ) → List ℕ
-arch_word (Some name) = name
-arch_word None = codes "-"
+-- Why a library has no design under a top, in a word.
+abbrev pub netlist_word : NetlistWhy → List ℕ
+netlist_word netlist.NoTop = codes "no-top"
+netlist_word netlist.UnknownUnit = codes "unknown-unit"
+netlist_word netlist.Loop = codes "loop"
+netlist_word netlist.UnknownPort = codes "unknown-port"
+netlist_word netlist.UnknownSignal = codes "unknown-signal"
+netlist_word netlist.WidthDiffers = codes "width"
+netlist_word netlist.TypeDiffers = codes "type"
+netlist_word netlist.TwiceAssociated = codes "twice"
+netlist_word netlist.TwiceDeclared = codes "twice-declared"
+netlist_word netlist.NotStructural = codes "not-structural"
+netlist_word netlist.OutputToInputPort = codes "mode"
+netlist_word netlist.TwoDrivers = codes "two-drivers"
+netlist_word netlist.GenericMap = codes "generic-map"
+
+-- A name that there may be, or `-` for none.
+abbrev pub name_word : Option (List ℕ) → List ℕ
+name_word (Some name) = name
+name_word None = codes "-"
+
+-- Whether an instance is one of a cell or of a netlist unit, in a word.
+abbrev pub unit_word : Bool → List ℕ
+unit_word true = codes "cell"
+unit_word false = codes "net"
+
+-- The type of a signal, by whether it is resolved.
+abbrev pub type_word : Bool → List ℕ
+type_word true = codes "std_logic"
+type_word false = codes "std_ulogic"
 
 -- The level that a cell has where it breaks a clause: the one below the clause's.
 abbrev pub level_word : Clause → List ℕ
@@ -139,13 +196,18 @@ bytes_of (init name value) = line_of (codes "init") (name ∷ (byte_of value ∷
 bytes_of (event time delta name value) =
     line_of (codes "event") (decimal time ∷ decimal delta ∷ name ∷ (byte_of value ∷ []) ∷ [])
 bytes_of (end time) = line_of (codes "end") (decimal time ∷ [])
-bytes_of (cell_level1 entity arch) = line_of (codes "cell") (entity ∷ arch_word arch ∷ codes "level1" ∷ [])
+bytes_of (cell_level1 entity arch) = line_of (codes "cell") (entity ∷ name_word arch ∷ codes "level1" ∷ [])
 bytes_of (cell_broken entity arch clause at) =
-    line_of (codes "cell") (entity ∷ arch_word arch ∷ level_word clause ∷ clause_word clause ∷ spot_fields at)
+    line_of (codes "cell") (entity ∷ name_word arch ∷ level_word clause ∷ clause_word clause ∷ spot_fields at)
+bytes_of (instance path unit is_cell) = line_of (codes "instance") (path ∷ unit ∷ unit_word is_cell ∷ [])
+bytes_of (signal name is_resolved drivers) = line_of (codes "signal") (name ∷ type_word is_resolved ∷ decimal drivers ∷ [])
+bytes_of end_of_design = line_of (codes "end") []
 bytes_of (refused_usage word why) = line_of (codes "refused usage") (decimal word ∷ usage_word why ∷ [])
 bytes_of (refused_lexical why at) = line_of (codes "refused lexical") (spot_fields at ++ lexical_word why ∷ [])
 bytes_of (refused_syntax at) = line_of (codes "refused syntax") (spot_fields at)
 bytes_of (refused_limit limit at) = line_of (codes "refused limit") (limit_word limit ∷ spot_fields at)
 bytes_of (refused_library why at) = line_of (codes "refused library") (library_word why ∷ spot_fields at)
+bytes_of (refused_netlist why at name) = line_of (codes "refused netlist") (netlist_word why ∷ spot_fields at ++ name_word name ∷ [])
+bytes_of (refused_cell at clause) = line_of (codes "refused netlist") (codes "not-level1" ∷ spot_fields at ++ clause_word clause ∷ [])
 bytes_of (refused_stimulus why file line) =
     line_of (codes "refused stimulus") (stimulus_word why ∷ file ∷ decimal line ∷ [])

@@ -54,6 +54,19 @@ impl<V: Value> Fields for Field<V> {
     }
 }
 
+/// No field.
+impl Fields for () {
+    ghost listed = { λ nothing. [] };
+
+    fn put(&self, _buffer: &mut [u8], end: usize) -> Option<usize> {
+        Some(end)
+    }
+
+    fn write<K: Sink>(&self, _sink: &mut K) -> Result<(), WriteFault> {
+        Ok(())
+    }
+}
+
 /// The fields of the first, and then those of the second.
 impl<A: Fields, B: Fields> Fields for (A, B) {
     ghost listed = { λ pair. A.listed pair.0 ++ B.listed pair.1 };

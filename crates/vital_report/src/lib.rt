@@ -10,6 +10,6 @@ mod reporter;
 mod said;
 mod value;
 
-pub use line::{LexicalWhy, LibraryWhy, Limit, Line, Position, StimulusWhy, UsageWhy};
+pub use line::{LexicalWhy, LibraryWhy, Limit, Line, NetlistWhy, Position, StimulusWhy, UsageWhy};
 pub use printer::Printer;
 pub use reporter::{NoMemory, Reporter};

@@ -1,5 +1,5 @@
 ghost use Rattle.std.specs.Prelude.{◌≡◌};
-ghost use Rattle.vital_report.specs.Lines.{usage_word, stimulus_word, lexical_word, limit_word, library_word};
+ghost use Rattle.vital_report.specs.Lines.{usage_word, stimulus_word, lexical_word, limit_word, library_word, netlist_word};
 
 use vital_base::{Clause, Name, Time};
 use vital_logic::Level;
@@ -39,6 +39,22 @@ pub enum Line<'a> {
         clause: Clause,
         at: Position<'a>,
     },
+    /// `instance PATH UNIT cell` or `instance PATH UNIT net`: an instance of a design, by its path, which is `-` for the top. Its unit is
+    /// a cell or a netlist unit.
+    Instance {
+        path: &'a [u8],
+        unit: &'a [u8],
+        is_cell: bool,
+    },
+    /// `signal NAME TYPE N`: a signal of a design with N drivers in cells. TYPE is std_logic for a resolved signal, else std_ulogic
+    /// (IEEE 1164).
+    Signal {
+        name: &'a [u8],
+        is_resolved: bool,
+        drivers: u64,
+    },
+    /// `end`, the last line of a design.
+    EndOfDesign,
     /// `refused usage N WHY`: the word with number N, counted from 1, is at fault.
     RefusedUsage {
         word: u64,
@@ -53,8 +69,8 @@ pub enum Line<'a> {
     RefusedSyntax {
         at: Position<'a>,
     },
-    /// `refused limit WHICH FILE LINE COLUMN`: at this place a file or a cell passes a limit. The place in a file that is too long
-    /// is 0 and 0.
+    /// `refused limit WHICH FILE LINE COLUMN`: at this place a file, a cell or a design passes a limit. The place in a file that is
+    /// too long is 0 and 0.
     RefusedLimit {
         limit: Limit,
         at: Position<'a>,
@@ -63,6 +79,18 @@ pub enum Line<'a> {
     RefusedLibrary {
         why: LibraryWhy,
         at: Position<'a>,
+    },
+    /// `refused netlist WHY FILE LINE COLUMN NAME`: the design has this fault at this place. NAME is an identifier, or `-` where none
+    /// stands there. A missing top stands at `-`, 0 and 0.
+    RefusedNetlist {
+        why: NetlistWhy,
+        at: Position<'a>,
+        name: Option<&'a [u8]>,
+    },
+    /// `refused netlist not-level1 FILE LINE COLUMN CLAUSE`: a cell of the design breaks the clause at this place, and none before it.
+    RefusedCell {
+        at: Position<'a>,
+        clause: Clause,
     },
     /// `refused stimulus WHY FILE LINE`: a line of a stimulus file, counted from 1, is at fault.
     RefusedStimulus {
@@ -167,7 +195,7 @@ impl LexicalWhy {
     }
 }
 
-/// Which limit is passed, by files or by a cell.
+/// Which limit is passed, by files, by a cell or by a design.
 #[derive(Clone, Copy, Debug, PartialEq, Eq)]
 pub enum Limit {
     /// The length of a file.
@@ -188,6 +216,12 @@ pub enum Limit {
     Paths,
     /// The worth of a time literal in a cell.
     Delay,
+    /// The count of the instances of a design.
+    Instances,
+    /// The count of the signals of a design.
+    Nets,
+    /// The count of the labels on the path of an instance.
+    Depth,
 }
 
 impl Limit {
@@ -205,6 +239,9 @@ impl Limit {
             Limit::Columns => b"columns",
             Limit::Paths => b"paths",
             Limit::Delay => b"delay",
+            Limit::Instances => b"instances",
+            Limit::Nets => b"nets",
+            Limit::Depth => b"depth",
         }
     }
 }
@@ -227,6 +264,61 @@ impl LibraryWhy {
         match self {
             LibraryWhy::Duplicate => b"duplicate",
             LibraryWhy::Entity => b"entity",
+        }
+    }
+}
+
+/// Why a library has no design under a top, but for what a cell breaks.
+#[derive(Clone, Copy, Debug, PartialEq, Eq)]
+pub enum NetlistWhy {
+    /// No entity has the name of the top.
+    NoTop,
+    /// The unit of an instance is no entity, or has no architecture.
+    UnknownUnit,
+    /// The unit of an instance stands on its path.
+    Loop,
+    /// A formal is no port, alone or with one index or one slice in its range.
+    UnknownPort,
+    /// An actual is neither `open`, nor a level, nor a port or signal, alone or with one index or one slice in its range.
+    UnknownSignal,
+    /// A formal and its actual differ in length.
+    WidthDiffers,
+    /// One of a formal and its actual is a single bit, and the other a vector. Or a port or a signal has a type or a default that it
+    /// may not have.
+    TypeDiffers,
+    /// A bit of a formal was associated before.
+    TwiceAssociated,
+    /// A port or a signal has the name of an earlier one.
+    TwiceDeclared,
+    /// A declaration or a statement is none of a netlist.
+    NotStructural,
+    /// A port of mode out, inout or buffer is associated with a level or with an in port.
+    OutputToInputPort,
+    /// A signal of an unresolved type has two drivers, where an inout port of the top counts as one.
+    TwoDrivers,
+    /// An instance has a generic map.
+    GenericMap,
+}
+
+impl NetlistWhy {
+    /// The word that is printed for it.
+    pub fn word(self) -> &'static [u8]
+        ensures { result.now ≡ netlist_word self }
+    {
+        match self {
+            NetlistWhy::NoTop => b"no-top",
+            NetlistWhy::UnknownUnit => b"unknown-unit",
+            NetlistWhy::Loop => b"loop",
+            NetlistWhy::UnknownPort => b"unknown-port",
+            NetlistWhy::UnknownSignal => b"unknown-signal",
+            NetlistWhy::WidthDiffers => b"width",
+            NetlistWhy::TypeDiffers => b"type",
+            NetlistWhy::TwiceAssociated => b"twice",
+            NetlistWhy::TwiceDeclared => b"twice-declared",
+            NetlistWhy::NotStructural => b"not-structural",
+            NetlistWhy::OutputToInputPort => b"mode",
+            NetlistWhy::TwoDrivers => b"two-drivers",
+            NetlistWhy::GenericMap => b"generic-map",
         }
     }
 }

@@ -1,9 +1,10 @@
 //! What each line says: the text that it begins with, and its fields.
 
-ghost use Rattle.std.specs.Prelude.{◌≡◌, ◌≤◌, true, OnOk, OnErr, option_map};
+ghost use Rattle.std.specs.Prelude.{◌≡◌, ◌≤◌, true, codes, None, OnOk, OnErr, option_map};
+ghost use Rattle.std.specs.Option.{option_copied};
 ghost use Rattle.vital_base.specs.Faults.{Rose};
 ghost use Rattle.vital_base.specs.Sinks.{appended, AppendsPrefix};
-ghost use Rattle.vital_report.specs.Lines.{said, is_of_cell, is_refusal, arch_word, level_word, bytes_of, line_of};
+ghost use Rattle.vital_report.specs.Lines.{said, is_of_cell, is_of_design, is_refusal, is_refused_design, level_word, name_word, type_word, unit_word, bytes_of, line_of};
 
 use crate::buffer::put_line;
 use crate::fields::{Field, Fields};
@@ -43,6 +44,9 @@ pub(crate) fn write<K: Sink>(
         }
         Line::End { time } => write_fields(buffer, sink, b"end", &Field(time)),
         Line::CellLevel1 { .. } | Line::CellBroken { .. } => write_cell(buffer, sink, line),
+        Line::Instance { .. } | Line::Signal { .. } | Line::EndOfDesign => {
+            write_design(buffer, sink, line)
+        }
         _ => write_refusal(buffer, sink, line),
     }
 }
@@ -75,6 +79,41 @@ fn write_cell<K: Sink>(buffer: &mut [u8], sink: &mut K, line: &Line<'_>) -> Resu
             let fields = (text(entity), (arch_text(arch), broken));
             write_fields(buffer, sink, b"cell", &fields)
         }
+        _ => unreachable!(),
+    }
+}
+
+/// Writes a line of a design.
+fn write_design<K: Sink>(buffer: &mut [u8], sink: &mut K, line: &Line<'_>) -> Result<(), WriteFault>
+    requires { is_of_design line.now ≡ true }
+    ensures keeps_may_stick { K.may_stick sink.old → K.may_stick sink.new }
+    ensures never_falls { K.faults sink.old ≤ K.faults sink.new }
+
+    ensures ok_leaves_count { OnOk result (K.faults sink.new ≡ K.faults sink.old) }
+    ensures ok_appends { OnOk result (K.told sink.new ≡ appended (K.told sink.old) (bytes_of (said line.now))) }
+
+    ensures fault_rose { OnErr result (Rose (K.faults sink.old) (K.faults sink.new)) }
+    ensures fault_appends_prefix { OnErr result (AppendsPrefix (K.told sink.old)
+        (bytes_of (said line.now)) (K.told sink.new)) }
+{
+    match *line {
+        Line::Instance {
+            path,
+            unit,
+            is_cell,
+        } => {
+            let fields = (fixed(path), (fixed(unit), unit_text(is_cell)));
+            write_fields(buffer, sink, b"instance", &fields)
+        }
+        Line::Signal {
+            name,
+            is_resolved,
+            drivers,
+        } => {
+            let fields = (fixed(name), (type_text(is_resolved), Field(drivers)));
+            write_fields(buffer, sink, b"signal", &fields)
+        }
+        Line::EndOfDesign => write_fields(buffer, sink, b"end", &()),
         _ => unreachable!(),
     }
 }
@@ -114,6 +153,39 @@ fn write_refusal<K: Sink>(
         Line::RefusedStimulus { why, file, line } => {
             let fields = (fixed(why.word()), (text(file), number(line)));
             write_fields(buffer, sink, b"refused stimulus", &fields)
+        }
+        Line::RefusedNetlist { .. } | Line::RefusedCell { .. } => {
+            write_refused_design(buffer, sink, line)
+        }
+        _ => unreachable!(),
+    }
+}
+
+/// Writes the line of the refusal of a design.
+fn write_refused_design<K: Sink>(
+    buffer: &mut [u8],
+    sink: &mut K,
+    line: &Line<'_>,
+) -> Result<(), WriteFault>
+    requires { is_refused_design line.now ≡ true }
+    ensures keeps_may_stick { K.may_stick sink.old → K.may_stick sink.new }
+    ensures never_falls { K.faults sink.old ≤ K.faults sink.new }
+
+    ensures ok_leaves_count { OnOk result (K.faults sink.new ≡ K.faults sink.old) }
+    ensures ok_appends { OnOk result (K.told sink.new ≡ appended (K.told sink.old) (bytes_of (said line.now))) }
+
+    ensures fault_rose { OnErr result (Rose (K.faults sink.old) (K.faults sink.new)) }
+    ensures fault_appends_prefix { OnErr result (AppendsPrefix (K.told sink.old)
+        (bytes_of (said line.now)) (K.told sink.new)) }
+{
+    match *line {
+        Line::RefusedNetlist { why, at, name } => {
+            let fields = (fixed(why.word()), (at, name_text(name)));
+            write_fields(buffer, sink, b"refused netlist", &fields)
+        }
+        Line::RefusedCell { at, clause } => {
+            let fields = (broken_text(), (at, Field(clause)));
+            write_fields(buffer, sink, b"refused netlist", &fields)
         }
         _ => unreachable!(),
     }
@@ -169,11 +241,57 @@ fn place<'a>(at: Position<'a>) -> (Field<&'a [u8]>, (Field<u64>, Field<u64>))
 
 /// The name of an architecture, or `-` for none.
 fn arch_text<'a>(arch: Option<&'a Name>) -> Field<&'a [u8]>
-    ensures { result.0.now ≡ arch_word (option_map (λ name. name.now) arch.entry) }
+    ensures { result.0.now ≡ name_word (option_map (λ name. name.now) arch.entry) }
 {
     match arch {
         Some(name) => text(name),
-        None => fixed(b"-"),
+        None => no_name(),
+    }
+}
+
+/// What stands where there is no name.
+fn no_name<'a>() -> Field<&'a [u8]>
+    ensures { result.0.now ≡ name_word None }
+{
+    fixed(b"-")
+}
+
+/// A name that there may be, or `-` for none.
+fn name_text<'a>(name: Option<&'a [u8]>) -> Field<&'a [u8]>
+    ensures { result.0.now ≡ name_word (option_copied name.entry) }
+{
+    match name {
+        Some(name) => fixed(name),
+        None => no_name(),
+    }
+}
+
+/// The word for an instance of a cell, or of a netlist unit.
+fn unit_text<'a>(is_cell: bool) -> Field<&'a [u8]>
+    ensures { result.0.now ≡ unit_word is_cell }
+{
+    if is_cell {
+        fixed(b"cell")
+    } else {
+        fixed(b"net")
+    }
+}
+
+/// The word for a cell that breaks a clause.
+fn broken_text<'a>() -> Field<&'a [u8]>
+    ensures { result.0.now ≡ codes "not-level1" }
+{
+    fixed(b"not-level1")
+}
+
+/// The type of a signal, by whether it is resolved.
+fn type_text<'a>(is_resolved: bool) -> Field<&'a [u8]>
+    ensures { result.0.now ≡ type_word is_resolved }
+{
+    if is_resolved {
+        fixed(b"std_logic")
+    } else {
+        fixed(b"std_ulogic")
     }
 }
 

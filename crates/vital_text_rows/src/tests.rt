@@ -1,3 +1,4 @@
+mod designs;
 mod devices;
 mod lines;
 mod stimuli;

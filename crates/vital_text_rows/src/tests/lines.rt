@@ -87,7 +87,7 @@ fn sink(alloc: Global, piece: u32, fails: u32) -> Result<MemSink, AllocError> {
 }
 
 /// Whether the line is printed as this text, and a flush writes no more.
-fn is_printed(alloc: Global, line: &Line<'_>, text: &str) -> Result<bool, AllocError> {
+pub fn is_printed(alloc: Global, line: &Line<'_>, text: &str) -> Result<bool, AllocError> {
     let mut got = sink(alloc, 1_000, 0)?;
     let mut reporter = Reporter::new(alloc)?;
     let put = reporter.put(&mut got, line);
