@@ -10,8 +10,7 @@ use Rattle.vital_tool.specs.Outcome.{Gives, complete, reading_failed, writing_fa
 use Rattle.vital_tool.specs.Stages.{IsJobAnswer, IsOnlyAnswer}
 use Rattle.vital_tool.specs.declared.status.Status.{Status}
 use Rattle.vital_tool.specs.declared.status.Status.TheVariants as status
-use Rattle.vital_level0.specs.Breaches.{HasOneFirst}
-use Rattle.vital_tool.proofs.OneAnswer.{OneReading, given}
+use Rattle.vital_tool.proofs.OneAnswer.{Laws, given}
 use Rattle.vital_tool.proofs.Printing.{if_also}
 use Rattle.vital_tool.proofs.Texts.{printed_then, stopped_then, sink_got, sink_got_part, sink_stopped, prefix_of_first}
 use Rattle.vital_words.specs.Jobs.{job}
@@ -52,12 +51,12 @@ gives answer s ended old mid new none unread (until_fault same p) (failed not e 
 gives answer s ended old mid new none unread (until_no_memory same p) (failed not e stops) = absurd (no_failure s status.NoMemory refl not same)
 
 -- what the whole run gave
-pub answered : OneReading → HasOneFirst → (words same : List (List ℕ)) (told : Option Files) (s ended : Status) (old mid new : PrinterState) (before after : Told)
+pub answered : Laws → (words same : List (List ℕ)) (told : Option Files) (s ended : Status) (old mid new : PrinterState) (before after : Told)
     → same ≡ words → old.held ≡ [] → old.told ≡ before → after ≡ new.told → (s ≡ status.ReadFault → mid ≡ old)
     → IfSome told (λ files. (answer : Answer) → IsJobAnswer files (job same) answer → PrintsAnswer answer s old mid) → Finishes s ended mid new
     → IfSome told (λ files. (answer : Answer) × IsOnlyAnswer words files answer × Gives answer ended before after)
-answered reads first_breach words same told s ended old mid new before after e none first last unread prints finishes =
-    if_also told _ _ prints (λ files p. given reads first_breach words files ended before after (λ answer is.
+answered laws words same told s ended old mid new before after e none first last unread prints finishes =
+    if_also told _ _ prints (λ files p. given laws words files ended before after (λ answer is.
     subst (λ (t : Told). Gives answer ended t after) first
     (subst (λ (t : Told). Gives answer ended old.told t) (sym last)
     (gives answer s ended old mid new none unread (p answer (subst (λ (ws : List (List ℕ)). IsJobAnswer files (job ws) answer) (sym e) is)) finishes))))

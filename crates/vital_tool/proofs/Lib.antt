@@ -21,3 +21,5 @@ pub mod ListedCells
 pub mod CellLines
 pub mod Checked
 pub mod LibraryRefused
+pub mod TreeLines
+pub mod Elaborated

@@ -4,6 +4,8 @@ use Rattle.std.specs.List.{slice_get}
 use Rattle.vital_base.specs.Shelves.{Files}
 use Rattle.vital_base.specs.Sinks.{Told}
 use Rattle.vital_base.specs.declared.place.Place.{Place}
+use Rattle.vital_designs.specs.Elaboration.{elaborated}
+use Rattle.vital_instances.specs.Judges.{IsJudge, Judge}
 use Rattle.vital_level0.specs.Breaches.{HasOneFirst}
 use Rattle.vital_library.specs.Faults.{least_of, faults}
 use Rattle.vital_library.specs.Gathered.{gathered, limited, judged, refusal}
@@ -26,11 +28,12 @@ use Rattle.vital_tool.specs.Loading.{all_loaded}
 use Rattle.vital_tool.specs.Outcome.{Gives, memory_failed}
 use Rattle.vital_tool.specs.Play.{port_signal}
 use Rattle.vital_tool.specs.Ports.{port_run}
-use Rattle.vital_tool.specs.Reading.{Continues, IsReadAs, AreRead}
+use Rattle.vital_tool.specs.Reading.{Continues, IsReadAs, AreRead, role_of}
 use Rattle.vital_tool.specs.Refusals.{refused_words, text_refusal, IsFileRefusal, refused_at, IsLibraryRefusal}
 use Rattle.vital_tool.specs.Run.{Event}
 use Rattle.vital_tool.specs.Stages.{IsPlayAnswer, IsTaskAnswer, IsLibraryAnswer, IsReadAnswer, IsLoadedAnswer, IsJobAnswer, IsOnlyAnswer}
 use Rattle.vital_tool.specs.Stimuli.{init_line, run_lines, printed_why, IsStimuliAnswer, IsReadStimuliAnswer}
+use Rattle.vital_tool.specs.Trees.{IsTreeAnswer, tree_answer}
 use Rattle.vital_tool.specs.declared.loading.Source.{Source}
 use Rattle.vital_tool.specs.declared.refusal.Refusal.{Refusal}
 use Rattle.vital_tool.specs.declared.refusal.Refusal.TheVariants as refusals
@@ -44,16 +47,13 @@ use Rattle.vital_vhdl.specs.Outcomes.{IsReading}
 use Rattle.vital_vhdl.specs.declared.read.UnitError.{UnitError}
 use Rattle.vital_vhdl.specs.declared.read.UnitError.TheVariants as unit_error
 use Rattle.vital_nodes.specs.declared.unit.Role.{Role}
-use Rattle.vital_nodes.specs.declared.unit.Role.TheVariants.{Lib}
 use Rattle.vital_nodes.specs.declared.unit.Unit.{Unit as Unit'}
 use Rattle.vital_nodes.specs.declared.unit.Units.{Units}
 use Rattle.vital_words.specs.Jobs.{job}
 use Rattle.vital_words.specs.declared.job.Job.{Job}
 use Rattle.vital_words.specs.declared.job.NamedFile.{NamedFile}
 use Rattle.vital_words.specs.declared.job.Task.{Task}
-use Rattle.vital_words.specs.declared.job.Task.TheVariants.{Play, Check}
-use Rattle.vital_words.specs.declared.key.FileKind.{FileKind}
-use Rattle.vital_words.specs.declared.key.FileKind.TheVariants as kind
+use Rattle.vital_words.specs.declared.job.Task.TheVariants.{Play, Check, Tree}
 use Rattle.vital_words.specs.declared.refusal.UsageFault.{UsageFault}
 
 -- there is one of this kind
@@ -64,6 +64,17 @@ IsOne {A} P = (x : A) × P x × ((other : A) → P other → other ≡ x)
 abbrev pub OneReading : Type 0
 OneReading = (file : ℕ) (role : Role) (text : List ℕ) (room : ℕ) → IsOne (IsReading file role text room)
 
+-- there is one judge of cells
+pub record OneJudge : Type 0 where
+  pub is : (judge : Judge) × IsJudge judge
+  pub only : (a b : Judge) → IsJudge a → IsJudge b → a ≡ b
+
+-- each cell has one first breach, each text one reading, and there is one judge of cells
+pub record Laws : Type 0 where
+  pub first : HasOneFirst
+  pub reads : OneReading
+  pub judge : OneJudge
+
 -- this one alone
 one_is : {A : Type 0} (x : A) → IsOne (λ (y : A). y ≡ x)
 one_is x = (x, refl, λ other e. e)
@@ -73,35 +84,35 @@ one_is x = (x, refl, λ other e. e)
 abbrev joined : Units → Result (List Units) Refusal → Result (List Units) Refusal
 joined first others = others >>= λ units. Ok (first ∷ units)
 
-one_refusal : (number : ℕ) (text : List ℕ) (room : ℕ) (error : UnitError) → IsReading number Lib text room (Err error) → IsOne (IsFileRefusal number text error)
-one_refusal number text room (unit_error.Lex fault) h = one_is (text_refusal number text fault)
-one_refusal number text room (unit_error.Refused place) h = one_is (refusals.Syntax place)
-one_refusal number text room unit_error.NoMemory h = absurd h
+one_refusal : (number : ℕ) (role : Role) (text : List ℕ) (room : ℕ) (error : UnitError) → IsReading number role text room (Err error) → IsOne (IsFileRefusal number text error)
+one_refusal number role text room (unit_error.Lex fault) h = one_is (text_refusal number text fault)
+one_refusal number role text room (unit_error.Refused place) h = one_is (refusals.Syntax place)
+one_refusal number role text room unit_error.NoMemory h = absurd h
 
-one_going_on : (number : ℕ) (text : List ℕ) (room : ℕ) (After : ℕ → Result (List Units) Refusal → Type 0) → ((used : ℕ) → IsOne (After used))
-    → (first : Result Units UnitError) → IsReading number Lib text room first → IsOne (Continues number text first After)
-one_going_on number text room After after (Ok units) h =
+one_going_on : (number : ℕ) (role : Role) (text : List ℕ) (room : ℕ) (After : ℕ → Result (List Units) Refusal → Type 0) → ((used : ℕ) → IsOne (After used))
+    → (first : Result Units UnitError) → IsReading number role text room first → IsOne (Continues number text first After)
+one_going_on number role text room After after (Ok units) h =
     let p = after units.tokens in
     (joined units p.0, (p.0, p.1, refl), λ other o. o.2 ∙ ap (joined units) (p.2 o.0 o.1))
-one_going_on number text room After after (Err error) h =
-    let p = one_refusal number text room error h in
+one_going_on number role text room After after (Err error) h =
+    let p = one_refusal number role text room error h in
     (Err p.0, (p.0, p.1, refl), λ other o. o.2 ∙ ap (λ (r : Refusal). Err r) (p.2 o.0 o.1))
 
-one_read_as : OneReading → (kind : FileKind) (number : ℕ) (text : List ℕ) (room : ℕ) (After : ℕ → Result (List Units) Refusal → Type 0) → ((used : ℕ) → IsOne (After used))
-    → IsOne (IsReadAs kind number text room After)
-one_read_as reads kind.Lib number text room After after =
-    let r = reads number Lib text room in
-    let p = one_going_on number text room After after r.0 r.1 in (
+one_read_as : OneReading → (role : Option Role) (number : ℕ) (text : List ℕ) (room : ℕ) (After : ℕ → Result (List Units) Refusal → Type 0) → ((used : ℕ) → IsOne (After used))
+    → IsOne (IsReadAs role number text room After)
+one_read_as reads (Some role) number text room After after =
+    let r = reads number role text room in
+    let p = one_going_on number role text room After after r.0 r.1 in (
       p.0,
       (r.0, r.1, p.1),
       λ other o. p.2 other (subst (λ (first : Result Units UnitError). Continues number text first After other) (r.2 o.0 o.1) o.2),
     )
-one_read_as reads kind.Stim number text room After after = after 0
+one_read_as reads None number text room After after = after 0
 
 pub one_read : OneReading → (number room : ℕ) (sources : List Source) → IsOne (AreRead number room sources)
 one_read reads number room [] = one_is (Ok [])
 one_read reads number room (source ∷ sources) =
-    one_read_as reads source.kind number source.text room (λ used. AreRead (number + 1) (room - used) sources) (λ used. one_read reads (number + 1) (room - used) sources)
+    one_read_as reads (role_of source.kind) number source.text room (λ used. AreRead (number + 1) (room - used) sources) (λ used. one_read reads (number + 1) (room - used) sources)
 
 -- ---- one answer to files that were read
 
@@ -142,9 +153,16 @@ one_cells_answer first files library =
     let found = some_finding first (cells library) in
     (cells_answer files (cells library) found.0 found.1, (found.0, found.1, found.2, refl), is_answer first files library found.0 found.1 found.2)
 
-one_task_answer : HasOneFirst → (task : Task) (files : List NamedFile) (sources : List Source) (library : List Units) → IsOne (IsTaskAnswer task files sources library)
-one_task_answer first (Play play) files sources library = one_play_answer play.until (slice_get files play.stim) (slice_get sources play.stim)
-one_task_answer first Check files sources library = one_cells_answer first files library
+one_tree_answer : OneJudge → (files : List NamedFile) (library : List Units) (top : List ℕ) → IsOne (IsTreeAnswer files library top)
+one_tree_answer one files library top =
+    let judge = one.is.0 in
+    let made = elaborated judge library top in
+    (tree_answer files top made, (made, (judge, one.is.1, refl), refl), λ other o. o.2 ∙ ap (tree_answer files top) (o.1.2 ∙ ap (λ (j : Judge). elaborated j library top) (one.only o.1.0 judge o.1.1 one.is.1)))
+
+one_task_answer : Laws → (task : Task) (files : List NamedFile) (sources : List Source) (library : List Units) → IsOne (IsTaskAnswer task files sources library)
+one_task_answer laws (Play play) files sources library = one_play_answer play.until (slice_get files play.stim) (slice_get sources play.stim)
+one_task_answer laws Check files sources library = one_cells_answer laws.first files library
+one_task_answer laws (Tree tree) files sources library = one_tree_answer laws.judge files library tree.top
 
 one_library_refusal : (error : LibraryError) → (error ≡ library.NoMemory → ⊥) → IsOne (IsLibraryRefusal error)
 one_library_refusal (library.TooManyUnits place) some = one_is (refusals.Limit UnitsLimit place)
@@ -152,37 +170,37 @@ one_library_refusal (library.Duplicate place) some = one_is (refusals.Library wh
 one_library_refusal (library.NoEntity place) some = one_is (refusals.Library why.Entity place)
 one_library_refusal library.NoMemory some = absurd (some refl)
 
-one_library : HasOneFirst → (job : Job) (sources : List Source) (outcome : Result (List Units) LibraryError) → (outcome ≡ Err library.NoMemory → ⊥) → IsOne (IsLibraryAnswer job sources outcome)
-one_library first job sources (Ok files) some = one_task_answer first job.task job.files sources files
-one_library first job sources (Err error) some =
+one_library : Laws → (job : Job) (sources : List Source) (outcome : Result (List Units) LibraryError) → (outcome ≡ Err library.NoMemory → ⊥) → IsOne (IsLibraryAnswer job sources outcome)
+one_library laws job sources (Ok files) some = one_task_answer laws job.task job.files sources files
+one_library laws job sources (Err error) some =
     let p = one_library_refusal error (λ e. some (ap (λ (x : LibraryError). Err x) e)) in
     (refused_at job.files p.0, (p.0, p.1, refl), λ other o. o.2 ∙ ap (refused_at job.files) (p.2 o.0 o.1))
 
-one_read_answer : HasOneFirst → (job : Job) (sources : List Source) (read : Result (List Units) Refusal) → IsOne (IsReadAnswer job sources read)
-one_read_answer first job sources (Ok files) = one_library first job sources (gathered files) (gathered_is files)
-one_read_answer first job sources (Err r) = one_is (refused_at job.files r)
+one_read_answer : Laws → (job : Job) (sources : List Source) (read : Result (List Units) Refusal) → IsOne (IsReadAnswer job sources read)
+one_read_answer laws job sources (Ok files) = one_library laws job sources (gathered files) (gathered_is files)
+one_read_answer laws job sources (Err r) = one_is (refused_at job.files r)
 
-one_loaded_answer : OneReading → HasOneFirst → (job : Job) (loaded : Result (List Source) Answer) → IsOne (IsLoadedAnswer job loaded)
-one_loaded_answer reads first job (Ok sources) =
-    let r = one_read reads 0 4_194_304 sources in
-    let p = one_read_answer first job sources r.0 in
+one_loaded_answer : Laws → (job : Job) (loaded : Result (List Source) Answer) → IsOne (IsLoadedAnswer job loaded)
+one_loaded_answer laws job (Ok sources) =
+    let r = one_read laws.reads 0 4_194_304 sources in
+    let p = one_read_answer laws job sources r.0 in
     (p.0, (r.0, r.1, p.1), λ other o. p.2 other (subst (λ (read : Result (List Units) Refusal). IsReadAnswer job sources read other) (r.2 o.0 o.1) o.2))
-one_loaded_answer reads first job (Err e) = one_is e
+one_loaded_answer laws job (Err e) = one_is e
 
 -- ---- one answer to words
 
-one_job_answer : OneReading → HasOneFirst → (files : Files) (j : Result Job UsageFault) → IsOne (IsJobAnswer files j)
-one_job_answer reads first files (Ok job) = one_loaded_answer reads first job (all_loaded files job.files)
-one_job_answer reads first files (Err fault) = one_is (refused_words fault)
+one_job_answer : Laws → (files : Files) (j : Result Job UsageFault) → IsOne (IsJobAnswer files j)
+one_job_answer laws files (Ok job) = one_loaded_answer laws job (all_loaded files job.files)
+one_job_answer laws files (Err fault) = one_is (refused_words fault)
 
 -- what is given for every answer is given for the one that there is
-pub given : OneReading → HasOneFirst → (words : List (List ℕ)) (files : Files) (status : Status) (old new : Told)
+pub given : Laws → (words : List (List ℕ)) (files : Files) (status : Status) (old new : Told)
     → ((answer : Answer) → IsJobAnswer files (job words) answer → Gives answer status old new) → (answer : Answer) × IsOnlyAnswer words files answer × Gives answer status old new
-given reads first words files status old new gives =
-    let p = one_job_answer reads first files (job words) in
+given laws words files status old new gives =
+    let p = one_job_answer laws files (job words) in
     (p.0, record { is = p.1; only = p.2 }, gives p.0 p.1)
 
 -- where memory ran out nothing is given, which is a prefix of the answer
-pub nothing_given : OneReading → HasOneFirst → (words : List (List ℕ)) (files : Files) (told : Told) → (answer : Answer) × IsOnlyAnswer words files answer × Gives answer NoMemory told told
-nothing_given reads first words files told =
-    given reads first words files NoMemory told told (λ answer is. memory_failed refl (0, sym (appended-nil told)))
+pub nothing_given : Laws → (words : List (List ℕ)) (files : Files) (told : Told) → (answer : Answer) × IsOnlyAnswer words files answer × Gives answer NoMemory told told
+nothing_given laws words files told =
+    given laws words files NoMemory told told (λ answer is. memory_failed refl (0, sym (appended-nil told)))

@@ -13,11 +13,11 @@ use Rattle.vital_stim.specs.declared.stimuli.StimLine.{StimLine}
 use Rattle.vital_agenda.specs.Driver.{Driver, currents}
 use Rattle.vital_logic.specs.declared.level.Level.{Level}
 use Rattle.vital_tool.specs.Answer.{text_of}
-use Rattle.vital_tool.specs.Outcome.{PlayPrints}
+use Rattle.vital_tool.specs.Outcome.{PrintsPart}
 use Rattle.vital_tool.specs.Stimuli.{event_line}
 use Rattle.vital_tool.specs.Ports.{port_inits, port_run, port_lines, cycles_text, sent_to}
-use Rattle.vital_tool.specs.declared.cycles.PlayError.{PlayError}
-use Rattle.vital_tool.specs.declared.cycles.PlayError.TheVariants as play
+use Rattle.vital_tool.specs.declared.lines.PrintError.{PrintError}
+use Rattle.vital_tool.specs.declared.lines.PrintError.TheVariants as play
 use Rattle.vital_tool.proofs.Printing.{text_of_events}
 use Rattle.vital_tool.proofs.Sending.{current-sent}
 use Rattle.vital_tool.proofs.Texts.{printed_none, printed_then, stopped_then, stopped_within}
@@ -119,21 +119,21 @@ pub prints_failed : {T E : Type 0} (Q : E → Type 0) (r : Result T E) (whole : 
 prints_failed Q r whole start next failed w = let p = err_from_is_err_and r failed in rw p.1 w
 
 -- the sink failed, and that is passed on
-pub play_stops : {T : Type 0} (r : Result T PlayError) (whole : List ℕ) (start next : PrinterState) → IsErrAnd r (λ e. e ≡ play.WriteFault) → Stopped whole start next → PlayPrints r whole start next
+pub play_stops : {T : Type 0} (r : Result T PrintError) (whole : List ℕ) (start next : PrinterState) → IsErrAnd r (λ e. e ≡ play.WriteFault) → Stopped whole start next → PrintsPart r whole start next
 play_stops r whole start next failed w =
     let p = err_from_is_err_and r failed in
-    let is : r ≡ Err play.WriteFault = p.1 ∙ ap (λ (e : PlayError). Err e) p.2 in rw is w
+    let is : r ≡ Err play.WriteFault = p.1 ∙ ap (λ (e : PrintError). Err e) p.2 in rw is w
 
 -- memory ran out, and that is passed on
-pub play_breaks : {T : Type 0} (r : Result T PlayError) (whole : List ℕ) (start next : PrinterState) → IsErrAnd r (λ e. e ≡ play.NoMemory) → (count : ℕ) × Printed (take count whole) start next
-    → PlayPrints r whole start next
+pub play_breaks : {T : Type 0} (r : Result T PrintError) (whole : List ℕ) (start next : PrinterState) → IsErrAnd r (λ e. e ≡ play.NoMemory) → (count : ℕ) × Printed (take count whole) start next
+    → PrintsPart r whole start next
 play_breaks r whole start next failed w =
     let p = err_from_is_err_and r failed in
-    let is : r ≡ Err play.NoMemory = p.1 ∙ ap (λ (e : PlayError). Err e) p.2 in rw is w
+    let is : r ≡ Err play.NoMemory = p.1 ∙ ap (λ (e : PrintError). Err e) p.2 in rw is w
 
 -- a piece failed, and that is passed on
-pub play_failed : {T : Type 0} (U : Type 0) (r : Result T PlayError) (e : PlayError) (start : PrinterState) (whole piece rest : List ℕ) (now next : PrinterState) → IsErrAnd r (λ x. x ≡ e)
-    → Part start whole (piece ++ rest) now → PlayPrints {T = U} (Err e) piece now next → PlayPrints r whole start next
+pub play_failed : {T : Type 0} (U : Type 0) (r : Result T PrintError) (e : PrintError) (start : PrinterState) (whole piece rest : List ℕ) (now next : PrinterState) → IsErrAnd r (λ x. x ≡ e)
+    → Part start whole (piece ++ rest) now → PrintsPart {T = U} (Err e) piece now next → PrintsPart r whole start next
 play_failed U r play.WriteFault start whole piece rest now next failed p w = play_stops r whole start next failed (part_stops start whole piece rest now next p w)
 play_failed U r play.NoMemory start whole piece rest now next failed p w = play_breaks r whole start next failed (part_breaks_in start whole piece rest now next p w)
 

@@ -2,9 +2,12 @@
 use Rattle.std.specs.Prelude.{ℕ, ◌≡◌, List, Option, Some, None, Result, Ok, Err}
 use Rattle.vital_library.specs.declared.error.LibraryError.{LibraryError}
 use Rattle.vital_library.specs.declared.error.LibraryError.TheVariants as library
+use Rattle.vital_netlist.specs.Refusals.{Refusal as NetRefusal}
+use Rattle.vital_nodes.specs.declared.unit.Units.{Units}
 use Rattle.vital_tool.specs.Answer.{Answer}
 use Rattle.vital_tool.specs.Loading.{too_long}
 use Rattle.vital_tool.specs.Refusals.{IsFileRefusal, IsLibraryRefusal}
+use Rattle.vital_tool.specs.Trees.{refused_design}
 use Rattle.vital_tool.specs.declared.loading.NotLoaded.{NotLoaded}
 use Rattle.vital_tool.specs.declared.loading.NotLoaded.TheVariants as loading
 use Rattle.vital_tool.specs.declared.loading.Source.{Source}
@@ -12,7 +15,7 @@ use Rattle.vital_tool.specs.declared.reading.Unread.{Unread}
 use Rattle.vital_tool.specs.declared.reading.Unread.TheVariants as reading
 use Rattle.vital_tool.specs.declared.refusal.Refusal.{Refusal}
 use Rattle.vital_vhdl.specs.declared.read.UnitError.{UnitError}
-use Rattle.vital_nodes.specs.declared.unit.Units.{Units}
+use Rattle.vital_words.specs.declared.job.NamedFile.{NamedFile}
 
 -- Files were loaded as defined, unless the shelf failed or memory ran out.
 abbrev pub GivesSources : Result (List Source) NotLoaded → Result (List Source) Answer → Type 0
@@ -38,3 +41,8 @@ GivesUnits (Err reading.NoMemory) outcome = Unit {0}
 abbrev pub GivesRefusal : LibraryError → Option Refusal → Type 0
 GivesRefusal error (Some refusal) = IsLibraryRefusal error refusal
 GivesRefusal error None = error ≡ library.NoMemory
+
+-- What a top is answered that is refused so, unless memory ran out.
+abbrev pub GivesDesignRefusal : List NamedFile → List ℕ → Option NetRefusal → Answer → Type 0
+GivesDesignRefusal files top (Some refusal) answer = answer ≡ refused_design files top refusal
+GivesDesignRefusal files top None answer = Unit {0}

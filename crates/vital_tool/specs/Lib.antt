@@ -7,6 +7,7 @@ pub mod Refusals
 pub mod Reading
 pub mod Stimuli
 pub mod Cells
+pub mod Trees
 pub mod Kept
 pub mod Stages
 pub mod Given

@@ -4,8 +4,8 @@ use Rattle.vital_base.specs.Faults.{Rose}
 use Rattle.vital_base.specs.Shelves.{Files}
 use Rattle.vital_base.specs.Sinks.{Told, appended, AppendsPrefix}
 use Rattle.vital_report.specs.Reporters.{PrinterState, Printed, Stopped}
-use Rattle.vital_tool.specs.declared.cycles.PlayError.{PlayError}
-use Rattle.vital_tool.specs.declared.cycles.PlayError.TheVariants as play
+use Rattle.vital_tool.specs.declared.lines.PrintError.{PrintError}
+use Rattle.vital_tool.specs.declared.lines.PrintError.TheVariants as play
 use Rattle.vital_tool.specs.declared.status.Status.{Status}
 use Rattle.vital_tool.specs.declared.status.Status.TheVariants.{ReadFault, WriteFault, NoMemory}
 use Rattle.vital_tool.specs.Answer.{Answer}
@@ -35,10 +35,10 @@ pub data PrintsAnswer (answer : Answer) (status : Status) (old new : PrinterStat
   until_no_memory : status ≡ NoMemory → (count : ℕ) × Printed (take count answer.bytes) old new → PrintsAnswer answer status old new
 
 -- A call that plays a part of a run prints its text; or a prefix of that, where writing or memory failed.
-abbrev pub PlayPrints : {T : Type 0} → Result T PlayError → List ℕ → PrinterState → PrinterState → Type 0
-PlayPrints (Ok x) text old new = Printed text old new
-PlayPrints (Err play.WriteFault) text old new = Stopped text old new
-PlayPrints (Err play.NoMemory) text old new = (count : ℕ) × Printed (take count text) old new
+abbrev pub PrintsPart : {T : Type 0} → Result T PrintError → List ℕ → PrinterState → PrinterState → Type 0
+PrintsPart (Ok x) text old new = Printed text old new
+PrintsPart (Err play.WriteFault) text old new = Stopped text old new
+PrintsPart (Err play.NoMemory) text old new = (count : ℕ) × Printed (take count text) old new
 
 -- What a stage that reads no file did, for whatever is the answer: what it printed of that, whether its printer goes on, and what
 -- became of the sink's count of faults.

@@ -11,6 +11,7 @@ use Rattle.vital_tool.specs.Loading.{all_loaded}
 use Rattle.vital_tool.specs.Reading.{AreRead}
 use Rattle.vital_tool.specs.Refusals.{refused_words, refused_at, IsLibraryRefusal}
 use Rattle.vital_tool.specs.Stimuli.{IsTextAnswer}
+use Rattle.vital_tool.specs.Trees.{IsTreeAnswer}
 use Rattle.vital_tool.specs.declared.loading.Source.{Source}
 use Rattle.vital_tool.specs.declared.refusal.Refusal.{Refusal}
 use Rattle.vital_nodes.specs.declared.unit.Units.{Units}
@@ -18,7 +19,7 @@ use Rattle.vital_words.specs.Jobs.{job}
 use Rattle.vital_words.specs.declared.job.Job.{Job}
 use Rattle.vital_words.specs.declared.job.NamedFile.{NamedFile}
 use Rattle.vital_words.specs.declared.job.Task.{Task}
-use Rattle.vital_words.specs.declared.job.Task.TheVariants.{Play, Check}
+use Rattle.vital_words.specs.declared.job.Task.TheVariants.{Play, Check, Tree}
 use Rattle.vital_words.specs.declared.refusal.UsageFault.{UsageFault}
 
 -- What `play` answers to its stimulus file.
@@ -32,6 +33,7 @@ abbrev pub IsTaskAnswer : Task → List NamedFile → List Source → List Units
 IsTaskAnswer (Play play) files sources library answer =
     IsPlayAnswer play.until (slice_get files play.stim) (slice_get sources play.stim) answer
 IsTaskAnswer Check files sources library answer = IsCellsAnswer files library answer
+IsTaskAnswer (Tree tree) files sources library answer = IsTreeAnswer files library tree.top answer
 
 -- What is answered to files that were joined into a library, or refused.
 abbrev pub IsLibraryAnswer : Job → List Source → Result (List Units) LibraryError → Answer → Type 0

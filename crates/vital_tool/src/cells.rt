@@ -104,7 +104,7 @@ fn level_line<'a>(files: &'a [NamedFile], cell: Cell<'a>, level: CellLevel) -> L
 }
 
 /// The line that refuses a cell which passes this limit.
-fn limit_line<'a>(files: &'a [NamedFile], passed: PassedLimit) -> Line<'a>
+pub fn limit_line<'a>(files: &'a [NamedFile], passed: PassedLimit) -> Line<'a>
     ensures { said result ≡ limit_line' files.now passed }
 {
     Line::RefusedLimit {

@@ -6,41 +6,15 @@ ghost use Rattle.std.specs.Option.{option_map};
 ghost use Rattle.vital_agenda.specs.Driver.{pending_count};
 ghost use Rattle.vital_report.specs.Reporters.{Prints};
 ghost use Rattle.vital_tool.specs.Answer.{text_of};
-ghost use Rattle.vital_tool.specs.Outcome.{PlayPrints};
+ghost use Rattle.vital_tool.specs.Outcome.{PrintsPart};
 ghost use Rattle.vital_tool.specs.Ports.{ComeFrom, port_inits, port_lines, cycles_text, sent_to, due_lines, later_lines};
 ghost use Rattle.vital_tool.specs.Run.{delta_at, up_to};
-ghost use Rattle.vital_tool.specs.declared.cycles.PlayError.TheVariants as error;
 
+use crate::lines::PrintError;
 use crate::signals::Signals;
-use std::alloc::AllocError;
 use vital_base::{PortBit, Sink, Time, WriteFault};
 use vital_report::{Line, Printer};
 use vital_stim::StimLine;
-
-/// Why a run did not come to its end.
-#[derive(Clone, Copy, Debug, PartialEq, Eq)]
-pub enum PlayError {
-    /// The sink failed.
-    WriteFault,
-    /// Memory ran out.
-    NoMemory,
-}
-
-impl From<WriteFault> for PlayError {
-    ghost from_gives = { λ _ e. e ≡ error.WriteFault };
-
-    fn from(_fault: WriteFault) -> PlayError {
-        PlayError::WriteFault
-    }
-}
-
-impl From<AllocError> for PlayError {
-    ghost from_gives = { λ _ e. e ≡ error.NoMemory };
-
-    fn from(_error: AllocError) -> PlayError {
-        PlayError::NoMemory
-    }
-}
 
 /// Runs the signals of the ports up to the end time, and prints the lines of the run. A line of the stimuli is handed to the
 /// driver of its port when the cycle at its time comes, so that little is pending at once. The run is that in which all lines
@@ -51,12 +25,12 @@ pub fn play<K: Sink>(
     signals: &mut Signals,
     until: Time,
     printer: &mut Printer<'_, K>,
-) -> Result<(), PlayError>
+) -> Result<(), PrintError>
     requires one_each { length ports.now ≡ length signals.old.drivers }
     requires idle { pending_count signals.old.drivers ≡ 0 }
     requires start { signals.old.now ≡ 0 }
     requires come { ComeFrom (length ports.now) 0 lines.now }
-    ensures { PlayPrints result (text_of (port_lines ports.now (sent_to lines.now signals.old.drivers) until)) printer.old printer.new }
+    ensures { PrintsPart result (text_of (port_lines ports.now (sent_to lines.now signals.old.drivers) until)) printer.old printer.new }
 {
     printer.print(&Line::Version)?;
     print_inits(ports, signals, printer)?;
@@ -92,13 +66,13 @@ fn run_cycles<K: Sink>(
     signals: &mut Signals,
     until: Time,
     printer: &mut Printer<'_, K>,
-) -> Result<(), PlayError>
+) -> Result<(), PrintError>
     requires one_each { length ports.now ≡ length signals.old.drivers }
     requires idle { pending_count signals.old.drivers ≡ 0 }
     requires start { signals.old.now ≡ 0 }
     requires come { ComeFrom (length ports.now) 0 lines.now }
     requires goes_on { printer.old.stopped ≡ false }
-    ensures { PlayPrints result (cycles_text ports.now (sent_to lines.now signals.old.drivers) until) printer.old printer.new }
+    ensures { PrintsPart result (cycles_text ports.now (sent_to lines.now signals.old.drivers) until) printer.old printer.new }
 {
     let mut now = 0;
     let mut delta = 0;

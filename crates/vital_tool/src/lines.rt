@@ -5,10 +5,37 @@ ghost use Rattle.vital_report.specs.Lines.{said};
 ghost use Rattle.vital_tool.specs.Answer.{refused};
 ghost use Rattle.vital_tool.specs.Loading.{too_long};
 ghost use Rattle.vital_tool.specs.Outcome.{Stage};
+ghost use Rattle.vital_tool.specs.declared.lines.PrintError.TheVariants as error;
 
 use crate::status::Status;
+use std::alloc::AllocError;
 use vital_base::{Name, Sink, WriteFault};
 use vital_report::{Limit, Line, Position, Printer};
+
+/// Why lines were not all printed.
+#[derive(Clone, Copy, Debug, PartialEq, Eq)]
+pub enum PrintError {
+    /// The sink failed.
+    WriteFault,
+    /// Memory ran out.
+    NoMemory,
+}
+
+impl From<WriteFault> for PrintError {
+    ghost from_gives = { λ _ e. e ≡ error.WriteFault };
+
+    fn from(_fault: WriteFault) -> PrintError {
+        PrintError::WriteFault
+    }
+}
+
+impl From<AllocError> for PrintError {
+    ghost from_gives = { λ _ e. e ≡ error.NoMemory };
+
+    fn from(_error: AllocError) -> PrintError {
+        PrintError::NoMemory
+    }
+}
 
 /// Prints the one line of a refusal, and ends with its status.
 pub fn refuse<K: Sink>(line: &Line<'_>, status: Status, printer: &mut Printer<'_, K>) -> Status

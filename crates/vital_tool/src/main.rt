@@ -3,9 +3,11 @@
 
 mod cells;
 mod cycles;
+mod elaborating;
 mod judging;
 mod lines;
 mod loading;
+mod netlist_refusal;
 mod reading;
 mod refusal;
 mod run;
@@ -13,6 +15,7 @@ mod signals;
 mod stages;
 mod status;
 mod stimuli;
+mod tree;
 
 use crate::run::run;
 use std::alloc::{AllocError, Global};

@@ -1,8 +1,9 @@
 //! Reading the texts of VHDL files.
 
-ghost use Rattle.std.specs.Prelude.{◌≡◌, ◌≤◌, List as List', Result, length, All};
+ghost use Rattle.std.specs.Prelude.{◌≡◌, ◌≤◌, List as List', Result, length, All, IfOk};
+ghost use Rattle.vital_as_read.specs.Libraries.{IsFromText};
 ghost use Rattle.vital_grammar.specs.Grammar.{grammar};
-ghost use Rattle.vital_tool.specs.Reading.{AreRead};
+ghost use Rattle.vital_tool.specs.Reading.{AreRead, role_of};
 ghost use Rattle.vital_tool.specs.Refusals.{offset_of, place_in, printed_lexical, text_refusal};
 ghost use Rattle.vital_tool.specs.Given.{GivesUnits, GivesFirst};
 ghost use Rattle.vital_tool.specs.declared.reading.Unread.TheVariants.{NoMemory};
@@ -39,43 +40,55 @@ impl<T: Drop> From<AllocFailed<T>> for Unread {
     }
 }
 
+/// What the units of a file of this kind are, if it is a VHDL file.
+fn role_of(kind: FileKind) -> Option<Role>
+    ensures { result ≡ role_of kind }
+{
+    match kind {
+        FileKind::Lib => Some(Role::Lib),
+        FileKind::Net => Some(Role::Net),
+        FileKind::Stim => None,
+    }
+}
+
 /// The units of the VHDL files among these, which are numbered from 0; or how the first that is refused is. One table of the
 /// grammar serves all of them.
 pub fn read_files(alloc: Global, rules: &Rules, sources: &[Source]) -> Result<List<Units>, Unread>
     requires grammar { rules.now ≡ grammar }
-    requires few { length sources.now ≤ 16 }
+    requires few { length sources.now ≤ 17 }
     requires within { All (λ source. length source.text ≤ 16_777_216) sources.now }
-    ensures { (outcome : Result (List' Units') Refusal') → AreRead 0 4_194_304 sources.now outcome → GivesUnits result outcome }
+    ensures gives { (outcome : Result (List' Units') Refusal') → AreRead 0 4_194_304 sources.now outcome → GivesUnits result outcome }
+    ensures read { IfOk result (All IsFromText) }
 {
     let mut files = Vec::new(alloc);
     let mut room = MOST_TOKENS;
     for (number, source) in sources.iter().enumerate() {
-        match source.kind {
-            FileKind::Lib => {
-                let units = read_text(alloc, rules, number as u32, source.text.as_slice(), room)?;
-                room = room.saturating_sub(units.tokens);
-                files.push(units)?;
-            }
-            FileKind::Stim => {}
+        if let Some(role) = role_of(source.kind) {
+            let text = source.text.as_slice();
+            let units = read_text(alloc, rules, number as u32, role, text, room)?;
+            room = room.saturating_sub(units.tokens);
+            files.push(units)?;
         }
     }
     Ok(List::new(files))
 }
 
-/// The units of the file with this number and text, or how it is refused.
+/// The units of the file with this number and text, which are of this role; or how it is refused.
 fn read_text(
     alloc: Global,
     rules: &Rules,
     number: u32,
+    role: Role,
     text: &[u8],
     room: u32,
 ) -> Result<Units, Unread>
     requires grammar { rules.now ≡ grammar }
     requires short { length text.now ≤ 16_777_216 }
-    ensures { (first : Result Units' UnitError') → IsReading number Role.Lib text.now room first
+    ensures gives { (first : Result Units' UnitError') → IsReading number role text.now room first
         → GivesFirst number text.now result first }
+    ensures read { IfOk result IsFromText }
 {
-    match read_units(alloc, rules, number, Role::Lib, text, room) {
+    match read_units(alloc, rules, number, role, text, room) {
         Ok(units) => Ok(units),
         Err(UnitError::Lex(fault)) => Err(Unread::Refused(text_refusal(number, text, fault))),
         Err(UnitError::Refused { place }) => Err(Unread::Refused(Refusal::Syntax { place })),

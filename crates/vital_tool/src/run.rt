@@ -13,6 +13,7 @@ use crate::stages::run_job;
 use crate::status::Status;
 use std::alloc::Global;
 use vital_base::{Shelf, Sink, Word, WriteFault};
+use vital_instances::one_judge;
 use vital_level0::one_first_breach;
 use vital_report::{Printer, Reporter};
 use vital_vhdl::one_reading;
@@ -54,6 +55,7 @@ pub fn run<S: Shelf, K: Sink>(
 {
     one_reading();
     one_first_breach();
+    one_judge();
     let Ok(reporter) = Reporter::new(alloc) else {
         return Status::NoMemory;
     };

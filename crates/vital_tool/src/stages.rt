@@ -1,6 +1,7 @@
 //! The stages of a job, in their order.
 
 ghost use Rattle.std.specs.Prelude.{◌≡◌, ◌≤◌, false, length, All, Ok};
+ghost use Rattle.vital_as_read.specs.Libraries.{IsFromText};
 ghost use Rattle.vital_library.specs.Gathered.{gathered};
 ghost use Rattle.vital_tool.specs.Loading.{OpensFiles, all_loaded};
 ghost use Rattle.vital_tool.specs.Outcome.{Runs, Stage};
@@ -8,6 +9,7 @@ ghost use Rattle.vital_tool.specs.Stages.{IsLibraryAnswer, IsLoadedAnswer, IsTas
 ghost use Rattle.vital_words.specs.Given.{NamesIn};
 
 use crate::cells::check_cells;
+use crate::elaborating::{Asked, print_tree};
 use crate::lines::refuse_long;
 use crate::loading::{NotLoaded, Source, load_files};
 use crate::reading::{Unread, read_files};
@@ -28,7 +30,7 @@ pub fn run_job<S: Shelf, K: Sink>(
     shelf: &mut S,
     printer: &mut Printer<'_, K>,
 ) -> Status
-    requires few { length job.now.files ≤ 16 }
+    requires few { length job.now.files ≤ 17 }
     requires names_in { NamesIn job.now }
     requires goes_on { printer.old.stopped ≡ false }
     ensures runs { Runs (λ files. IsLoadedAnswer job.now (all_loaded files job.now.files)) result
@@ -50,7 +52,7 @@ fn run_sources<K: Sink>(
     sources: &List<Source>,
     printer: &mut Printer<'_, K>,
 ) -> Status
-    requires few { length sources.now ≤ 16 }
+    requires few { length sources.now ≤ 17 }
     requires within { All (λ source. length source.text ≤ 16_777_216) sources.now }
     requires count { length sources.now ≡ length job.now.files }
     requires names_in { NamesIn job.now }
@@ -76,6 +78,7 @@ fn run_units<K: Sink>(
     units: List<Units>,
     printer: &mut Printer<'_, K>,
 ) -> Status
+    requires read { All IsFromText units }
     requires within { All (λ source. length source.text ≤ 16_777_216) sources.now }
     requires count { length sources.now ≡ length job.now.files }
     requires names_in { NamesIn job.now }
@@ -99,13 +102,14 @@ fn run_task<K: Sink>(
     library: &Library,
     printer: &mut Printer<'_, K>,
 ) -> Status
+    requires read { All IsFromText library.now }
     requires within { All (λ source. length source.text ≤ 16_777_216) sources.now }
     requires count { length sources.now ≡ length job.now.files }
     requires names_in { NamesIn job.now }
     requires goes_on { printer.old.stopped ≡ false }
     ensures { Stage (IsTaskAnswer job.now.task job.now.files sources.now library.now) result printer.old printer.new }
 {
-    match job.task {
+    match &job.task {
         Task::Play(play) => {
             let file = &job.files.as_slice()[play.stim];
             let source = &sources.as_slice()[play.stim];
@@ -118,5 +122,10 @@ fn run_task<K: Sink>(
             )
         }
         Task::Check => check_cells(alloc, job.files.as_slice(), library, printer),
+        Task::Tree(tree) => {
+            let files = job.files.as_slice();
+            let top = tree.top.as_slice();
+            print_tree(alloc, Asked { files, top }, library, printer)
+        }
     }
 }

@@ -16,6 +16,8 @@ pub enum Status {
     Limit,
     /// The units of the files are no library.
     Library,
+    /// The design under the top is wrong.
+    Netlist,
     /// The stimuli are wrong.
     Stimulus,
     /// The shelf failed.
@@ -38,6 +40,7 @@ impl Status {
             Status::Syntax => 3,
             Status::Limit => 4,
             Status::Library => 5,
+            Status::Netlist => 6,
             Status::Stimulus => 8,
             Status::ReadFault => 10,
             Status::WriteFault => 11,

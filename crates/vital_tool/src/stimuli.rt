@@ -6,8 +6,8 @@ ghost use Rattle.vital_stim.specs.Stimuli.{Fits};
 ghost use Rattle.vital_tool.specs.Outcome.{Stage};
 ghost use Rattle.vital_tool.specs.Stimuli.{printed_why, IsStimuliAnswer, IsTextAnswer};
 
-use crate::cycles::{PlayError, play};
-use crate::lines::refuse;
+use crate::cycles::play;
+use crate::lines::{PrintError, refuse};
 use crate::signals::Signals;
 use crate::status::Status;
 use std::alloc::Global;
@@ -66,8 +66,8 @@ fn play_stimuli<K: Sink>(
         printer,
     ) {
         Ok(()) => Status::Done,
-        Err(PlayError::WriteFault) => Status::WriteFault,
-        Err(PlayError::NoMemory) => Status::NoMemory,
+        Err(PrintError::WriteFault) => Status::WriteFault,
+        Err(PrintError::NoMemory) => Status::NoMemory,
     }
 }
 

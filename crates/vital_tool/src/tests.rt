@@ -2,6 +2,7 @@
 
 mod check_rows;
 mod play_rows;
+mod tree_rows;
 
 use crate::run::run;
 use crate::status::Status;
@@ -35,14 +36,35 @@ fn files_of(alloc: Global, texts: &[(&str, &str)]) -> Result<List<MemFile>, Allo
     Ok(List::new(files))
 }
 
+/// What is written, and the status, where these are the words and the files with their texts.
+fn answered(
+    alloc: Global,
+    words: &[&str],
+    texts: &[(&str, &str)],
+) -> Result<(MemSink, Status), AllocError> {
+    let words = words_of(alloc, words)?;
+    let mut shelf = MemShelf::new(files_of(alloc, texts)?, 7, List::new(Vec::new(alloc)));
+    let mut sink = MemSink::new(alloc, 1_000, List::new(Vec::new(alloc)));
+    let status = run(alloc, &words, &mut shelf, &mut sink);
+    Ok((sink, status))
+}
+
 #[test]
 fn rows_are_answered(rt: HostRuntime) -> Result<(), Fail> {
     let alloc = rt.alloc();
     for (words, texts, written, status) in play_rows::ROWS.iter().chain(check_rows::ROWS.iter()) {
-        let words = words_of(alloc, words)?;
-        let mut shelf = MemShelf::new(files_of(alloc, texts)?, 7, List::new(Vec::new(alloc)));
-        let mut sink = MemSink::new(alloc, 1_000, List::new(Vec::new(alloc)));
-        let ended = run(alloc, &words, &mut shelf, &mut sink);
+        let (sink, ended) = answered(alloc, words, texts)?;
+        assert_eq!(rt; ended.number(), *status, "at {written:?}");
+        assert_eq!(rt; sink.bytes(), written.as_bytes(), "at {written:?}");
+    }
+    Ok(())
+}
+
+#[test]
+fn tree_rows_are_answered(rt: HostRuntime) -> Result<(), Fail> {
+    let alloc = rt.alloc();
+    for (words, texts, written, status) in tree_rows::ROWS.iter() {
+        let (sink, ended) = answered(alloc, words, texts)?;
         assert_eq!(rt; ended.number(), *status, "at {written:?}");
         assert_eq!(rt; sink.bytes(), written.as_bytes(), "at {written:?}");
     }

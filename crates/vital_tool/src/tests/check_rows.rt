@@ -7,7 +7,7 @@ pub const RING: &str =
     "entity R is port (EN : in STD_ULOGIC; Q : buffer STD_ULOGIC); end R; architecture S of R is begin U1 : AND2 port map (A => EN, B => Q, Y => Q); end S;";
 
 /// A two-input AND.
-const AND2: &str = r#"library IEEE;
+pub const AND2: &str = r#"library IEEE;
 use IEEE.STD_LOGIC_1164.all;
 use IEEE.VITAL_Timing.all;
 entity AND2 is

@@ -4,7 +4,7 @@ use Rattle.vital_tool.proofs.stages.run_sources.Goals as goal
 
 pub returns-in-Err-Refused : goal.returns-in-Err-Refused
 returns-in-Err-Refused g c =
-    let only = rw (c.in-Err-Refused.field-0-is, c.as_slice.ensures) at c.in-Err-Refused.ensures in
+    let only = rw (c.in-Err-Refused.field-0-is, c.as_slice.ensures) at c.in-Err-Refused.ensures.gives in
     stage_for _ _ _ _ _ (rw (c.in-Err-Refused.field-0-is, c.as_slice-in-Err-Refused.ensures) at c.refuse_files.ensures) (reading_refused c.args.job.now c.args.sources.now c.in-Err-Refused.refusal only)
 
 pub returns : goal.returns

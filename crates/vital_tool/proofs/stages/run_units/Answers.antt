@@ -6,6 +6,9 @@ use Rattle.vital_tool.proofs.LibraryRefused.{library_refused}
 use Rattle.vital_tool.proofs.Printing.{stage_for}
 use Rattle.vital_tool.proofs.stages.run_units.Goals as goal
 
+pub run_task-requires-clause-read : goal.run_task-requires-clause-read
+run_task-requires-clause-read g c = rw c.in-Ok.ensures.files c.requires.read
+
 pub returns-in-Some : goal.returns-in-Some
 returns-in-Some g c =
     let job = c.args.job.now in

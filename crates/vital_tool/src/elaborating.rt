@@ -1,0 +1,190 @@
+//! Elaborating a library under a top, step by step: each step borrows what the ones before it made.
+
+ghost use Rattle.std.specs.Prelude.{◌≡◌, false, All};
+ghost use Rattle.vital_as_read.specs.Libraries.{IsFromText};
+ghost use Rattle.vital_designs.specs.Elaboration.{designed};
+ghost use Rattle.vital_instances.specs.Designs.{AreEntered};
+ghost use Rattle.vital_tool.specs.Outcome.{Stage};
+ghost use Rattle.vital_tool.specs.Trees.{IsTreeAnswer, design_answer, tree_answer};
+
+use crate::lines::PrintError;
+use crate::netlist_refusal::refuse_design;
+use crate::status::Status;
+use crate::tree::print_design;
+use std::alloc::Global;
+use vital_base::Sink;
+use vital_design_cells::Cells;
+use vital_designs::Design;
+use vital_instances::{Instance, InstancesError, NetUnits, instances, one_judge};
+use vital_level1::Packages;
+use vital_library::Library;
+use vital_names::LibraryNames;
+use vital_netlist::{ElabError, elaborate, refusal_of};
+use vital_nets::DesignParts;
+use vital_report::Printer;
+use vital_typed_cells::TypedPackages;
+use vital_words::NamedFile;
+
+/// What `tree` is asked for: the design under a top, an entity of a library that was read from these files.
+#[derive(Clone, Copy)]
+pub struct Asked<'a> {
+    pub files: &'a [NamedFile],
+    pub top: &'a [u8],
+}
+
+/// Prints the design under a top of a library, or refuses it.
+pub fn print_tree<K: Sink>(
+    alloc: Global,
+    asked: Asked<'_>,
+    library: &Library,
+    printer: &mut Printer<'_, K>,
+) -> Status
+    requires read { All IsFromText library.now }
+    requires goes_on { printer.old.stopped ≡ false }
+    ensures { Stage (IsTreeAnswer asked.entry.files.now library.now asked.entry.top.now) result printer.old printer.new }
+{
+    let Ok(names) = LibraryNames::new(alloc, library) else {
+        return Status::NoMemory;
+    };
+    print_named(alloc, asked, library, &names, printer)
+}
+
+/// The same with the names of the library.
+fn print_named<'a, K: Sink>(
+    alloc: Global,
+    asked: Asked<'_>,
+    library: &'a Library,
+    names: &'a LibraryNames<'a>,
+    printer: &mut Printer<'_, K>,
+) -> Status
+    requires read { All IsFromText library.now }
+    requires names { names.now ≡ library.now }
+    requires goes_on { printer.old.stopped ≡ false }
+    ensures { Stage (IsTreeAnswer asked.entry.files.now library.now asked.entry.top.now) result printer.old printer.new }
+{
+    let Ok(packages) = Packages::new(alloc, names) else {
+        return Status::NoMemory;
+    };
+    print_judged(alloc, asked, library, names, &packages, printer)
+}
+
+/// The same with what the constants of its packages break and pass.
+fn print_judged<'a, K: Sink>(
+    alloc: Global,
+    asked: Asked<'_>,
+    library: &'a Library,
+    names: &'a LibraryNames<'a>,
+    packages: &'a Packages<'a>,
+    printer: &mut Printer<'_, K>,
+) -> Status
+    requires read { All IsFromText library.now }
+    requires names { names.now ≡ library.now }
+    requires packages { packages.now ≡ library.now }
+    requires goes_on { printer.old.stopped ≡ false }
+    ensures { Stage (IsTreeAnswer asked.entry.files.now library.now asked.entry.top.now) result printer.old printer.new }
+{
+    let Ok(net_units) = NetUnits::new(alloc, library, names) else {
+        return Status::NoMemory;
+    };
+    print_under(alloc, asked, library, names, packages, &net_units, printer)
+}
+
+/// The same with what its netlist units hold.
+fn print_under<'a, K: Sink>(
+    alloc: Global,
+    asked: Asked<'_>,
+    library: &'a Library,
+    names: &'a LibraryNames<'a>,
+    packages: &'a Packages<'a>,
+    net_units: &'a NetUnits<'a>,
+    printer: &mut Printer<'_, K>,
+) -> Status
+    requires read { All IsFromText library.now }
+    requires names { names.now ≡ library.now }
+    requires packages { packages.now ≡ library.now }
+    requires net_units { net_units.now ≡ library.now }
+    requires goes_on { printer.old.stopped ≡ false }
+    ensures { Stage (IsTreeAnswer asked.entry.files.now library.now asked.entry.top.now) result printer.old printer.new }
+{
+    one_judge();
+    match instances(alloc, library, packages, net_units, asked.top) {
+        Ok(found) => {
+            let entered = found.as_slice();
+            print_entered(
+                alloc, asked, library, names, packages, net_units, entered, printer,
+            )
+        }
+        Err(InstancesError::Fault(fault)) => {
+            refuse_design(asked.files, asked.top, refusal_of(fault), printer)
+        }
+        Err(InstancesError::NoMemory) => Status::NoMemory,
+    }
+}
+
+/// The same with the instances under the top.
+fn print_entered<'a, K: Sink>(
+    alloc: Global,
+    asked: Asked<'_>,
+    library: &'a Library,
+    names: &'a LibraryNames<'a>,
+    packages: &'a Packages<'a>,
+    net_units: &'a NetUnits<'a>,
+    entered: &'a [Instance],
+    printer: &mut Printer<'_, K>,
+) -> Status
+    requires read { All IsFromText library.now }
+    requires names { names.now ≡ library.now }
+    requires packages { packages.now ≡ library.now }
+    requires net_units { net_units.now ≡ library.now }
+    requires entered { AreEntered library.now entered.now }
+    requires goes_on { printer.old.stopped ≡ false }
+    ensures { Stage (λ answer. answer ≡ tree_answer asked.entry.files.now asked.entry.top.now (designed library.now entered.now)) result printer.old printer.new }
+{
+    let Ok(typed) = TypedPackages::new(alloc, packages) else {
+        return Status::NoMemory;
+    };
+    let Ok(cells) = Cells::new(alloc, library, &typed, entered) else {
+        return Status::NoMemory;
+    };
+    let parts = DesignParts {
+        library,
+        names,
+        net_units,
+        instances: entered,
+        cells: &cells,
+    };
+    print_parts(alloc, asked, &parts, printer)
+}
+
+/// The same with all that the design is made of.
+fn print_parts<K: Sink>(
+    alloc: Global,
+    asked: Asked<'_>,
+    parts: &DesignParts<'_>,
+    printer: &mut Printer<'_, K>,
+) -> Status
+    requires read { All IsFromText parts.now.library.now }
+    requires names { parts.now.names.now ≡ parts.now.library.now }
+    requires net_units { parts.now.net_units.now ≡ parts.now.library.now }
+    requires cells { parts.now.cells.now ≡ record { files = parts.now.library.now; instances = parts.now.instances.now } }
+    requires entered { AreEntered parts.now.library.now parts.now.instances.now }
+    requires goes_on { printer.old.stopped ≡ false }
+    ensures { Stage (λ answer. answer ≡ tree_answer asked.entry.files.now asked.entry.top.now (designed parts.now.library.now parts.now.instances.now)) result printer.old printer.new }
+{
+    match elaborate(alloc, parts) {
+        Ok(design) => print_found(alloc, &design, printer),
+        Err(error) => refuse_design(asked.files, asked.top, error, printer),
+    }
+}
+
+/// Prints a design, and ends with the status of that.
+fn print_found<K: Sink>(alloc: Global, design: &Design<'_>, printer: &mut Printer<'_, K>) -> Status
+    requires goes_on { printer.old.stopped ≡ false }
+    ensures { Stage (λ answer. answer ≡ design_answer design.now) result printer.old printer.new }
+{
+    match print_design(alloc, design, printer) {
+        Ok(()) => Status::Done,
+        Err(PrintError::WriteFault) => Status::WriteFault,
+        Err(PrintError::NoMemory) => Status::NoMemory,
+    }
+}
