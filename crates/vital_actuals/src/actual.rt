@@ -8,7 +8,7 @@ use vital_operands::{BooleanExpr, ConstantName, DelayExpr, LevelExpr, TimeExpr, 
 use vital_timing::GlitchMode;
 
 /// An actual of the form that its formal asks.
-#[derive(Debug, Drop)]
+#[derive(Drop)]
 pub enum Actual {
     /// The name of a signal, a port, a variable or the generic of a wire delay.
     Named(Name),
@@ -36,7 +36,7 @@ pub enum Actual {
 }
 
 /// A path of a path delay (IEEE 1076.4, VitalPathType).
-#[derive(Debug, Drop)]
+#[derive(Drop)]
 pub struct Path {
     /// The internal signal, or the in or inout port, from whose last event it counts.
     pub signal: Name,

@@ -18,7 +18,7 @@ use vital_operands::Position;
 use vital_walk::{HasPlace, Node};
 
 /// What an assignment or a result is put to. An alias is what it names.
-#[derive(Debug, Drop)]
+#[derive(Drop)]
 pub enum Target {
     /// A variable of levels or of X01.
     Level(Name),

@@ -4,7 +4,7 @@ use std::alloc::{AllocError, Global};
 use std::marker::Model;
 
 /// The drivers that had a transaction at the present time, rising.
-#[derive(Debug, Drop)]
+#[derive(Drop)]
 pub struct Due {
     drivers: Vec<u32>,
     room: u32,

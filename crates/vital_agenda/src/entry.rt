@@ -4,7 +4,7 @@ use vital_logic::Level;
 
 /// A transaction of one driver, in a queue that holds those of all: its value, and the time of the driver's preceding
 /// entry, or none.
-#[derive(Clone, Copy, Debug, PartialEq, Eq)]
+#[derive(Clone, Copy, PartialEq, Eq)]
 pub struct Entry {
     pub value: Level,
     pub before: Option<Time>,

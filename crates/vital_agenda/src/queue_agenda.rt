@@ -16,7 +16,7 @@ use vital_logic::Level;
 
 /// An agenda that keeps the transactions of all drivers in one queue, in which each entry tells the time of its driver's
 /// preceding one, and each driver the time of its last one.
-#[derive(Debug, Drop)]
+#[derive(Drop)]
 pub struct QueueAgenda {
     now: Time,
     queue: Queue,

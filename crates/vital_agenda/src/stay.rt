@@ -6,7 +6,7 @@ use vital_base::Time;
 use vital_logic::{Level, to_byte};
 
 /// Which of a driver's transactions stay, from the last one back to the first that does not.
-#[derive(Clone, Copy, Debug)]
+#[derive(Clone, Copy)]
 pub(crate) enum Stay {
     /// Those after a time.
     After(Time),

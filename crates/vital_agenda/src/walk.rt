@@ -10,7 +10,7 @@ use vital_base::Time;
 
 /// Where a walk back from a driver's last entry halts: the time of the earliest entry that stays, and that of the
 /// next one before it.
-#[derive(Clone, Copy, Debug)]
+#[derive(Clone, Copy)]
 pub(crate) struct Halt {
     pub(crate) kept: Option<Time>,
     pub(crate) rest: Option<Time>,

@@ -14,7 +14,7 @@ use vital_structure::{Part, Shape, Structure, level_literal};
 use vital_walk::actual;
 
 /// What a port or a part of it is associated with.
-#[derive(Clone, Copy, Debug)]
+#[derive(Clone, Copy)]
 pub enum Actual<'a> {
     Open,
     /// A level that a character literal writes.

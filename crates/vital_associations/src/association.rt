@@ -19,7 +19,7 @@ use vital_nodes::Item;
 use vital_structure::{Part, Structure};
 
 /// A port of an instance or a part of it, with what it is associated with.
-#[derive(Clone, Copy, Debug)]
+#[derive(Clone, Copy)]
 pub struct Association<'a> {
     /// The number of the port.
     pub port: usize,

@@ -20,14 +20,14 @@ use vital_nodes::Item;
 use vital_structure::Structure;
 
 /// The fault of an association, and where it stands.
-#[derive(Clone, Copy, Debug)]
+#[derive(Clone, Copy)]
 pub struct AssociationFault<'a> {
     pub why: Misfit,
     pub point: Point<'a>,
 }
 
 /// Why an instance has no associations.
-#[derive(Clone, Copy, Debug)]
+#[derive(Clone, Copy)]
 pub enum AssociationsError<'a> {
     /// One is a fault, first there.
     Fault(AssociationFault<'a>),

@@ -9,7 +9,7 @@ use vital_nodes::Mode;
 use vital_structure::Shape;
 
 /// Why an association is a fault.
-#[derive(Clone, Copy, Debug, PartialEq, Eq)]
+#[derive(Clone, Copy, PartialEq, Eq)]
 pub enum Misfit {
     /// The formal is no port's identifier, alone or with one index or one slice in its range.
     UnknownPort,

@@ -12,7 +12,7 @@ use vital_nodes::{Actual, Choice, Expr, Identifier, Item};
 use vital_walk::HasPlace;
 
 /// A place, and the identifier that stands there, if one does.
-#[derive(Clone, Copy, Debug)]
+#[derive(Clone, Copy)]
 pub struct Point<'a> {
     pub place: Place,
     pub identifier: Option<&'a Identifier>,

@@ -3,22 +3,22 @@ ghost use Rattle.std.specs.Prelude.{◌≡◌, ℕ, List};
 use std::marker::{Model, PhantomData};
 
 /// Bytes in order, of which the type parameter says what they are.
-#[derive(Debug, Drop)]
+#[derive(Drop)]
 pub struct BytesOf<What> {
     bytes: Vec<u8>,
     what: PhantomData<What>,
 }
 
 /// What a file holds.
-#[derive(Debug, Drop)]
+#[derive(Drop)]
 pub struct Content;
 
 /// What something is called.
-#[derive(Debug, Drop)]
+#[derive(Drop)]
 pub struct Naming;
 
 /// What a user types between blanks.
-#[derive(Debug, Drop)]
+#[derive(Drop)]
 pub struct Argument;
 
 /// Bytes in order, such as those of a file.

@@ -11,21 +11,21 @@ use crate::shelf::Shelf;
 use std::marker::Model;
 
 /// A file in memory: its name, and its bytes.
-#[derive(Debug, Drop)]
+#[derive(Drop)]
 pub struct MemFile {
     pub name: Name,
     pub bytes: Bytes,
 }
 
 /// Which file is open, and how many of its bytes were read.
-#[derive(Clone, Copy, Debug)]
+#[derive(Clone, Copy)]
 struct OpenFile {
     index: usize,
     read: usize,
 }
 
 /// A shelf over files in memory, which it tells. Its calls fail where it is told to.
-#[derive(Debug, Drop)]
+#[derive(Drop)]
 pub struct MemShelf {
     files: List<MemFile>,
     piece: u32,

@@ -2,7 +2,7 @@ use crate::bytes::Name;
 use crate::list::List;
 
 /// One bit of the ports of the top unit.
-#[derive(Debug, Drop)]
+#[derive(Drop)]
 pub struct PortBit {
     /// The name that is printed for it.
     pub name: Name,

@@ -14,7 +14,7 @@ pub const GREATEST_TIME: Time = 1_152_921_504_606_846_976;
 const MOST_DIGITS: usize = 19;
 
 /// A unit of time that stimuli and the end time may be written in (IEEE 1076-1993, 3.1.3.1).
-#[derive(Clone, Copy, Debug, PartialEq, Eq)]
+#[derive(Clone, Copy, PartialEq, Eq)]
 pub enum TimeUnit {
     Femtosecond,
     Picosecond,

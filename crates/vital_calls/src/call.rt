@@ -7,7 +7,7 @@ ghost use Rattle.vital_calls.specs.Calls.{call_of, lent};
 use vital_nodes::{Identifier, Item, Reference, Suffix};
 
 /// A name as a call: the identifier of what is called, and its items.
-#[derive(Clone, Copy, Debug)]
+#[derive(Clone, Copy)]
 pub struct Call<'a> {
     pub identifier: &'a Identifier,
     /// The items in its parenthesis. A call without a parenthesis has none.

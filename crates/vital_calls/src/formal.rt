@@ -3,7 +3,7 @@
 use crate::actual_form::ActualForm;
 
 /// A formal of a function or a procedure.
-#[derive(Clone, Copy, Debug, PartialEq, Eq)]
+#[derive(Clone, Copy, PartialEq, Eq)]
 pub struct Formal {
     /// Its name in lower case, as identifiers keep names.
     pub name: &'static [u8],
@@ -14,7 +14,7 @@ pub struct Formal {
 }
 
 /// The formals of a function or a procedure, and how calls may give their actuals (IEEE 1076-1993, 4.3.2.2).
-#[derive(Clone, Copy, Debug, PartialEq, Eq)]
+#[derive(Clone, Copy, PartialEq, Eq)]
 pub enum Formals {
     /// So many levels, each by its position.
     Levels(usize),

@@ -16,7 +16,7 @@ use vital_sound::typed_is_sound;
 use vital_typed_cells::{TypedPackages, read_typed_cell};
 
 /// Why a cell has no typed tree.
-#[derive(Clone, Copy, Debug, PartialEq, Eq)]
+#[derive(Clone, Copy, PartialEq, Eq)]
 pub enum CheckError {
     /// It passes a limit, first there.
     Limit(PassedLimit),

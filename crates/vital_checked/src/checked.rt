@@ -8,7 +8,7 @@ use vital_typed_cells::TypedCell;
 
 /// A cell that meets Level 1 of VITAL (IEEE 1076.4). Its typed tree is sound: each name, number and index in it is there and means what is
 /// asked of it, its names are identifiers and differ, and each of its times is at most 2^50 fs. Contracts see it as its typed tree.
-#[derive(Debug, Drop)]
+#[derive(Drop)]
 pub struct Checked {
     cell: TypedCell,
 }

@@ -12,7 +12,7 @@ use vital_nodes::Mode;
 use vital_structure::{Shape, UnitSignal};
 
 /// A port or a signal of a unit.
-#[derive(Clone, Copy, Debug)]
+#[derive(Clone, Copy)]
 pub struct Object<'a> {
     pub name: &'a [u8],
     /// The place of its identifier.

@@ -10,7 +10,7 @@ use std::alloc::{AllocError, Global};
 use vital_naturals::Natural;
 
 /// Bits of a port or a signal that stand side by side.
-#[derive(Debug, Drop)]
+#[derive(Drop)]
 pub struct Run {
     /// The number of the port or signal.
     pub object: usize,

@@ -18,7 +18,7 @@ use vital_naturals::Natural;
 use vital_structure::{Part, Shape};
 
 /// What the bits of a span are associated with.
-#[derive(Debug, Drop)]
+#[derive(Drop)]
 pub enum Connected {
     /// Nothing, by `open`.
     Open,
@@ -29,7 +29,7 @@ pub enum Connected {
 }
 
 /// Bits of a port that stand side by side, and what they are associated with.
-#[derive(Debug, Drop)]
+#[derive(Drop)]
 pub struct Span {
     /// The number of the port.
     pub port: usize,

@@ -17,7 +17,7 @@ use vital_nodes::{Alias, Choice, Item, Object, ObjectClass, Reference, Subtype, 
 use vital_walk::literal_integer;
 
 /// What an alias names.
-#[derive(Clone, Copy, Debug)]
+#[derive(Clone, Copy)]
 pub enum AliasTarget<'a> {
     /// A variable of type STD_ULOGIC, STD_LOGIC or X01.
     Variable(&'a Object),

@@ -10,7 +10,7 @@ use vital_nodes::{Choice, Item, Reference, Subtype, Suffix};
 use vital_walk::{LiteralBounds, literal_bounds, literal_integer};
 
 /// A type of tables (IEEE 1076.4, package VITAL_Primitives).
-#[derive(Clone, Copy, Debug, PartialEq, Eq)]
+#[derive(Clone, Copy, PartialEq, Eq)]
 pub enum TableType {
     /// VitalTruthTableType.
     Truth,
@@ -19,7 +19,7 @@ pub enum TableType {
 }
 
 /// What a subtype is. Numbers in bounds may be of any length.
-#[derive(Clone, Copy, Debug)]
+#[derive(Clone, Copy)]
 pub enum DeclaredType<'a> {
     /// A predeclared type without an index and without a range.
     Plain(TypeName),

@@ -12,7 +12,7 @@ use vital_names::{CellNames, Declared, LibraryNames, Site};
 use vital_nodes::{Mode, Object, ObjectClass};
 
 /// What is declared, as an operand.
-#[derive(Clone, Copy, Debug)]
+#[derive(Clone, Copy)]
 pub enum OperandKind<'a> {
     /// An internal signal: a signal of type STD_ULOGIC or STD_LOGIC.
     Signal,

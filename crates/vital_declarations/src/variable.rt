@@ -17,7 +17,7 @@ use vital_walk::LiteralBounds;
 const MOST_ELEMENTS: usize = 256;
 
 /// A type that a variable of a process may have.
-#[derive(Clone, Copy, Debug)]
+#[derive(Clone, Copy)]
 pub enum VariableType<'a> {
     /// STD_ULOGIC or STD_LOGIC.
     Level,

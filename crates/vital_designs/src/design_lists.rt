@@ -10,7 +10,7 @@ use vital_logic::Level;
 use vital_naturals::Natural;
 
 /// Where an instance stands.
-#[derive(Clone, Copy, Debug)]
+#[derive(Clone, Copy)]
 pub struct Site<'a> {
     /// The number of the instance in which it stands, which is less than its own.
     pub instance: usize,
@@ -19,7 +19,7 @@ pub struct Site<'a> {
 }
 
 /// An instance of a design.
-#[derive(Clone, Copy, Debug)]
+#[derive(Clone, Copy)]
 pub struct DesignInstance<'a> {
     /// The top has none.
     pub site: Option<Site<'a>>,
@@ -30,7 +30,7 @@ pub struct DesignInstance<'a> {
 }
 
 /// A signal of a design.
-#[derive(Debug, Drop)]
+#[derive(Drop)]
 pub struct DesignSignal<'a> {
     /// The number of the instance that owns it.
     pub instance: usize,
@@ -45,7 +45,7 @@ pub struct DesignSignal<'a> {
 }
 
 /// A driver of a design (IEEE 1076-1993, 12.6.1).
-#[derive(Clone, Copy, Debug, PartialEq, Eq)]
+#[derive(Clone, Copy, PartialEq, Eq)]
 pub struct DesignDriver {
     /// The number of the signal that it drives.
     pub signal: usize,

@@ -16,7 +16,7 @@ use vital_statements::{as_process, call_of_conc, call_of_stmt, procedure_of, sta
 use vital_walk::{HasPlace, actual, all_concurrent, all_sequential, identifier_of};
 
 /// A call of a path delay.
-#[derive(Clone, Copy, Debug)]
+#[derive(Clone, Copy)]
 pub struct PathDelay<'a> {
     /// The place of the statement.
     pub place: Place,

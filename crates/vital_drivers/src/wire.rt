@@ -16,7 +16,7 @@ use vital_statements::{
 use vital_walk::{actual, identifier_of};
 
 /// A signal and the port that comes to it, by their names in a call.
-#[derive(Clone, Copy, Debug)]
+#[derive(Clone, Copy)]
 pub struct Wire<'a> {
     pub signal: &'a Identifier,
     pub port: &'a Identifier,

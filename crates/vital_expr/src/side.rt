@@ -3,7 +3,7 @@
 use vital_operands::{BooleanExpr, LevelExpr};
 
 /// A side of a relation: a level or a truth value.
-#[derive(Debug, Drop)]
+#[derive(Drop)]
 pub enum Side {
     Level(LevelExpr),
     Boolean(BooleanExpr),

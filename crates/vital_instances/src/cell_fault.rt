@@ -11,7 +11,7 @@ use vital_limits::PassedLimit;
 use vital_nodes::{Arch, Entity};
 
 /// Why a cell may not stand in a design.
-#[derive(Clone, Copy, Debug, PartialEq, Eq)]
+#[derive(Clone, Copy, PartialEq, Eq)]
 pub enum CellFault {
     /// It passes a limit, first there.
     Limit(PassedLimit),

@@ -16,7 +16,7 @@ use vital_nodes::{Identifier, Instance, Reference, Suffix};
 use vital_structure::Structure;
 
 /// An instance in a netlist unit.
-#[derive(Debug, Drop)]
+#[derive(Drop)]
 pub struct Child<'a> {
     pub label: &'a Identifier,
     /// The last identifier of the name of its unit.

@@ -11,7 +11,7 @@ use vital_nodes::Identifier;
 use vital_structure::UnitFault;
 
 /// The first fault of a library under a top. Those that hold an identifier stand at it.
-#[derive(Clone, Copy, Debug)]
+#[derive(Clone, Copy)]
 pub enum Fault<'a> {
     /// No entity has the name of the top.
     NoTop,
@@ -36,7 +36,7 @@ pub enum Fault<'a> {
 }
 
 /// Why there are no instances.
-#[derive(Clone, Copy, Debug)]
+#[derive(Clone, Copy)]
 pub enum InstancesError<'a> {
     Fault(Fault<'a>),
     NoMemory,

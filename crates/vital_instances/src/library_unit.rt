@@ -9,7 +9,7 @@ use vital_library::Library;
 use vital_nodes::{Arch, Entity, Role};
 
 /// An entity with its architecture, as a cell or as a netlist unit.
-#[derive(Clone, Copy, Debug)]
+#[derive(Clone, Copy)]
 pub struct LibraryUnit<'a> {
     pub entity: &'a Entity,
     pub role: Role,

@@ -10,7 +10,7 @@ use vital_timing::DelayType;
 use vital_walk::identifier_of;
 
 /// A word that the default of a generic is for its type. It names nothing, so that no declaration hides it.
-#[derive(Clone, Copy, Debug, PartialEq, Eq)]
+#[derive(Clone, Copy, PartialEq, Eq)]
 pub enum DefaultWord {
     /// TRUE or FALSE, of type Boolean.
     Boolean(bool),

@@ -19,7 +19,7 @@ use vital_nodes::{Arch, Entity};
 use vital_uses::{CellStatements, CellUses};
 
 /// The level of a cell (IEEE 1076.4): the greatest whose clauses it meets, and else the first breach.
-#[derive(Clone, Copy, Debug, PartialEq, Eq)]
+#[derive(Clone, Copy, PartialEq, Eq)]
 pub enum CellLevel {
     Level1,
     /// It meets Level 0, and breaks Level 1 first there.
@@ -29,7 +29,7 @@ pub enum CellLevel {
 }
 
 /// Why a cell has no verdict.
-#[derive(Clone, Copy, Debug, PartialEq, Eq)]
+#[derive(Clone, Copy, PartialEq, Eq)]
 pub enum CellError {
     /// It passes a limit, first there.
     Limit(PassedLimit),

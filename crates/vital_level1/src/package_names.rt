@@ -15,7 +15,7 @@ use vital_package_constants::{ConstantBreaches, breaches_at};
 use vital_uses::{Asked, CellUses, ProcessUses};
 
 /// A name in a cell that means a constant of a package.
-#[derive(Clone, Copy, Debug, PartialEq, Eq)]
+#[derive(Clone, Copy, PartialEq, Eq)]
 pub struct NamedConstant {
     /// The number of the constant among those of all packages of the library.
     pub number: usize,
@@ -80,7 +80,7 @@ pub fn named_constants(alloc: Global, uses: &CellUses<'_>) -> Result<Vec<NamedCo
 }
 
 /// A clause that constants of packages may break.
-#[derive(Clone, Copy, Debug, PartialEq, Eq)]
+#[derive(Clone, Copy, PartialEq, Eq)]
 pub enum PackageClause {
     /// Any of these.
     Any,

@@ -7,7 +7,7 @@ ghost use Rattle.vital_lex.specs.TextPosition.{IsPosition};
 /// An offset of a text with its line and its column, each from 1. A line ends at LF, and the column counts bytes.
 ///
 /// It goes on from where it is, so offsets that rise cost each byte of the text once.
-#[derive(Clone, Copy, Debug, PartialEq, Eq)]
+#[derive(Clone, Copy, PartialEq, Eq)]
 pub struct TextPosition {
     /// The number of bytes before it.
     pub offset: usize,

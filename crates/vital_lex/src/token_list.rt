@@ -5,7 +5,7 @@ ghost use Rattle.std.specs.Prelude.{◌≡◌};
 use std::marker::Model;
 
 /// A lexeme of a text, by the number of its kind and its place.
-#[derive(Clone, Copy, Debug, PartialEq, Eq)]
+#[derive(Clone, Copy, PartialEq, Eq)]
 pub struct Token {
     /// The number of its kind, as `Kind::number` gives it.
     pub kind: u16,
@@ -16,7 +16,7 @@ pub struct Token {
 }
 
 /// Tokens in the order in which they stand in a text.
-#[derive(Debug, Drop)]
+#[derive(Drop)]
 pub struct Tokens {
     items: Vec<Token>,
 }

@@ -8,14 +8,14 @@ use crate::error::LibraryError;
 use vital_base::Place;
 
 /// What a fault is about.
-#[derive(Clone, Copy, Debug, PartialEq, Eq)]
+#[derive(Clone, Copy, PartialEq, Eq)]
 pub enum FaultKind {
     Duplicate,
     NoEntity,
 }
 
 /// A fault, and where it stands.
-#[derive(Clone, Copy, Debug, PartialEq, Eq)]
+#[derive(Clone, Copy, PartialEq, Eq)]
 pub struct Fault {
     pub kind: FaultKind,
     pub place: Place,

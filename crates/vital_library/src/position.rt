@@ -7,7 +7,7 @@ ghost use Rattle.vital_library.specs.Positions.{arch_at, entity_at, role_at, uni
 use vital_nodes::{Arch, Entity, Role, Unit, Units};
 
 /// Where a unit stands: the number of its file, and its own in that file, each from 0.
-#[derive(Clone, Copy, Debug, PartialEq, Eq)]
+#[derive(Clone, Copy, PartialEq, Eq)]
 pub struct Position {
     pub file: usize,
     pub unit: u32,

@@ -16,7 +16,7 @@ use vital_uses::identifier_of_node;
 use vital_walk::{Node, nodes_of_all, put_shared_parts};
 
 /// Which limits of a cell that names it a constant of a package passes.
-#[derive(Clone, Copy, Debug, PartialEq, Eq)]
+#[derive(Clone, Copy, PartialEq, Eq)]
 pub struct ConstantLimits {
     /// A table has more than 128 rows.
     pub rows: bool,

@@ -22,7 +22,7 @@ pub enum CellLimit {
 }
 
 /// A limit that a cell passes, and where.
-#[derive(Clone, Copy, Debug, PartialEq, Eq)]
+#[derive(Clone, Copy, PartialEq, Eq)]
 pub struct PassedLimit {
     pub place: Place,
     pub limit: CellLimit,

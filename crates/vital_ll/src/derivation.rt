@@ -10,7 +10,7 @@ pub struct Step {
 }
 
 /// A derivation: the alternatives chosen, in preorder. Contracts see the list.
-#[derive(Debug, Drop)]
+#[derive(Drop)]
 pub struct Tree {
     steps: Vec<Step>,
 }

@@ -9,7 +9,7 @@ use crate::grammar::{RuleList, Sym};
 use std::alloc::AllocError;
 
 /// A part of a list.
-#[derive(Clone, Copy, Debug)]
+#[derive(Clone, Copy)]
 pub(crate) struct Part {
     pub(crate) start: usize,
     pub(crate) end: usize,
@@ -18,7 +18,7 @@ pub(crate) struct Part {
 /// What a rule comes to before the next token is taken: the step that the token decides for, the steps that it decides for
 /// after it, and the symbols that they leave. The last two are parts of the lists of all expansions. Most expansions have
 /// one step, which is at hand without the lists.
-#[derive(Clone, Copy, Debug)]
+#[derive(Clone, Copy)]
 pub(crate) struct Expansion {
     pub(crate) step: Step,
     pub(crate) more: Part,
@@ -26,7 +26,7 @@ pub(crate) struct Expansion {
 }
 
 /// The steps after the first and the symbols of all expansions, one expansion after another.
-#[derive(Debug, Drop)]
+#[derive(Drop)]
 pub(crate) struct Expansions {
     pub(crate) steps: Vec<Step>,
     pub(crate) symbols: Vec<Sym>,

@@ -4,7 +4,7 @@ ghost use Rattle.vital_ll.specs.Grammar.{alternative_of};
 use std::marker::Model;
 
 /// A symbol of an alternative. Kinds and rules are numbered from 0.
-#[derive(Clone, Copy, Debug, PartialEq, Eq)]
+#[derive(Clone, Copy, PartialEq, Eq)]
 pub enum Sym {
     /// A token of this kind.
     Token(u16),
@@ -13,19 +13,19 @@ pub enum Sym {
 }
 
 /// One alternative of a rule: its symbols, in order. Contracts see the list.
-#[derive(Debug, Drop)]
+#[derive(Drop)]
 pub struct Alternative {
     symbols: Vec<Sym>,
 }
 
 /// A rule: its alternatives, in order. Contracts see the list of their lists.
-#[derive(Debug, Drop)]
+#[derive(Drop)]
 pub struct Rule {
     alternatives: Vec<Alternative>,
 }
 
 /// A grammar: its rules, in order, of which the first derives the sentences. Contracts see the list.
-#[derive(Debug, Drop)]
+#[derive(Drop)]
 pub struct RuleList {
     rules: Vec<Rule>,
 }

@@ -7,7 +7,7 @@ use crate::grammar::RuleList;
 use std::alloc::{AllocError, Global};
 
 /// A symbol of an alternative, from 0.
-#[derive(Clone, Copy, Debug)]
+#[derive(Clone, Copy)]
 pub(crate) struct Place {
     pub(crate) step: Step,
     pub(crate) symbol: usize,

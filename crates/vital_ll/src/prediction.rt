@@ -63,7 +63,7 @@ impl Analysis<'_> {
 
 /// A predictive grammar with its table: for each rule and each next token, the end among them, what the rule comes to
 /// by the alternatives that the token begins or follows. Contracts see the grammar.
-#[derive(Debug, Drop)]
+#[derive(Drop)]
 pub struct Rules {
     grammar: RuleList,
     table: Table,

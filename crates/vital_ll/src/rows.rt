@@ -14,7 +14,7 @@ use std::marker::Model;
 
 /// The alternatives of a rule that the tokens decide for: a row of 128 entries for each block of tokens.
 /// Contracts see the list of rows.
-#[derive(Debug, Drop)]
+#[derive(Drop)]
 pub(crate) struct Rows {
     rows: Vec<[Option<u16>; 128]>,
 }

@@ -11,7 +11,7 @@ use std::alloc::{AllocError, Global};
 use std::marker::Model;
 
 /// For each rule what it comes to before one token. Contracts see the list.
-#[derive(Debug, Drop)]
+#[derive(Drop)]
 pub(crate) struct Column {
     entries: Vec<Option<Expansion>>,
 }
@@ -26,7 +26,7 @@ impl Model for Column {
 }
 
 /// The table of a grammar: a column for each token's bit, and the expansions of all columns.
-#[derive(Debug, Drop)]
+#[derive(Drop)]
 pub(crate) struct Table {
     pub(crate) columns: Vec<Column>,
     pub(crate) expansions: Expansions,

@@ -7,7 +7,7 @@ ghost use Rattle.vital_names.specs.Declarations.{declared_by, identifier_of, len
 use vital_nodes::{Alias, Decl, Identifier, Iface, Object};
 
 /// What is declared for an identifier, borrowed from its unit.
-#[derive(Clone, Copy, Debug)]
+#[derive(Clone, Copy)]
 pub enum Declared<'a> {
     Generic(&'a Iface),
     Port(&'a Iface),

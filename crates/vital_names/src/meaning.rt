@@ -9,7 +9,7 @@ use crate::predeclared::{Function, Predeclared, Procedure};
 use vital_nodes::Object;
 
 /// A constant of a package.
-#[derive(Clone, Copy, Debug)]
+#[derive(Clone, Copy)]
 pub struct PackageConstant<'a> {
     /// Its number among the constants of all packages of the library, from 0.
     pub number: usize,
@@ -17,7 +17,7 @@ pub struct PackageConstant<'a> {
 }
 
 /// What a name means.
-#[derive(Clone, Copy, Debug)]
+#[derive(Clone, Copy)]
 pub enum Meaning<'a> {
     /// What a declaration of the cell declares.
     Declared(Declared<'a>),

@@ -8,7 +8,7 @@ use vital_nodes::Logical;
 use vital_timing::{DelayType, GlitchMode, UnitOfTime};
 
 /// What a predeclared name means.
-#[derive(Clone, Copy, Debug, PartialEq, Eq)]
+#[derive(Clone, Copy, PartialEq, Eq)]
 pub enum Predeclared {
     Boolean(bool),
     GlitchMode(GlitchMode),
@@ -58,7 +58,7 @@ impl Predeclared {
 }
 
 /// How severe a message is (IEEE 1076-1993, 14.2).
-#[derive(Clone, Copy, Debug, PartialEq, Eq)]
+#[derive(Clone, Copy, PartialEq, Eq)]
 pub enum Severity {
     Note,
     Warning,
@@ -67,7 +67,7 @@ pub enum Severity {
 }
 
 /// A type that declarations may name.
-#[derive(Clone, Copy, Debug, PartialEq, Eq)]
+#[derive(Clone, Copy, PartialEq, Eq)]
 pub enum TypeName {
     StdUlogic,
     StdLogic,
@@ -89,7 +89,7 @@ pub enum TypeName {
 }
 
 /// A function that expressions may call.
-#[derive(Clone, Copy, Debug, PartialEq, Eq)]
+#[derive(Clone, Copy, PartialEq, Eq)]
 pub enum Function {
     Primitive(Primitive),
     Conversion(Conversion),
@@ -121,7 +121,7 @@ pub enum Inputs {
 }
 
 /// A conversion of levels (IEEE 1164).
-#[derive(Clone, Copy, Debug, PartialEq, Eq)]
+#[derive(Clone, Copy, PartialEq, Eq)]
 pub enum Conversion {
     X01,
     X01Z,
@@ -129,7 +129,7 @@ pub enum Conversion {
 }
 
 /// A procedure that statements may call.
-#[derive(Clone, Copy, Debug, PartialEq, Eq)]
+#[derive(Clone, Copy, PartialEq, Eq)]
 pub enum Procedure {
     WireDelay,
     StateTable,
@@ -139,7 +139,7 @@ pub enum Procedure {
 }
 
 /// A timing check (IEEE 1076.4, package VITAL_Timing).
-#[derive(Clone, Copy, Debug, PartialEq, Eq)]
+#[derive(Clone, Copy, PartialEq, Eq)]
 pub enum Check {
     SetupHold,
     RecoveryRemoval,

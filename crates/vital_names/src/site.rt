@@ -4,7 +4,7 @@ use crate::process_names::ProcessNames;
 use vital_base::Place;
 
 /// A unit of a cell.
-#[derive(Clone, Copy, Debug, PartialEq, Eq)]
+#[derive(Clone, Copy, PartialEq, Eq)]
 pub enum CellUnit {
     Entity,
     Architecture,

@@ -10,7 +10,7 @@ use std::cmp::Ordering;
 use std::marker::Model;
 
 /// A natural number of any size. Contracts see it as the number.
-#[derive(Debug, Drop)]
+#[derive(Drop)]
 pub struct Natural {
     /// Its decimal digits, that of the ones first. Zero has none, or zeros.
     digits: Vec<u8>,

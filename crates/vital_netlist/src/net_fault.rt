@@ -9,14 +9,14 @@ use vital_limits::PassedLimit;
 use vital_nets::SignalsError;
 
 /// A place, and the name of the identifier that stands there, if one does.
-#[derive(Clone, Copy, Debug)]
+#[derive(Clone, Copy)]
 pub struct Mark<'a> {
     pub place: Place,
     pub name: Option<&'a [u8]>,
 }
 
 /// What is wrong in netlists: why a library has no design under a top.
-#[derive(Clone, Copy, Debug)]
+#[derive(Clone, Copy)]
 pub enum NetFault<'a> {
     /// No entity has the name of the top.
     NoTop,
@@ -51,7 +51,7 @@ pub enum NetFault<'a> {
 }
 
 /// Which limit a library passes under a top.
-#[derive(Clone, Copy, Debug, PartialEq, Eq)]
+#[derive(Clone, Copy, PartialEq, Eq)]
 pub enum NetLimit {
     /// At most 16,384 instances, the top among them. The place is that of the last identifier of the unit of the first one too many.
     Instances(Place),
@@ -64,7 +64,7 @@ pub enum NetLimit {
 }
 
 /// Why a library has no design under a top.
-#[derive(Clone, Copy, Debug)]
+#[derive(Clone, Copy)]
 pub enum ElabError<'a> {
     Net(NetFault<'a>),
     Limit(NetLimit),

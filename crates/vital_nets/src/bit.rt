@@ -7,7 +7,7 @@ use std::cmp::Ordering;
 use vital_naturals::Natural;
 
 /// One bit of the ports and signals of the instances of a design.
-#[derive(Debug, Drop)]
+#[derive(Drop)]
 pub struct Bit {
     /// The number of its instance.
     pub instance: usize,

@@ -19,7 +19,7 @@ use vital_connections::Run;
 const MOST_SIGNALS: usize = 65_536;
 
 /// Why there are no signals.
-#[derive(Clone, Copy, Debug, PartialEq, Eq)]
+#[derive(Clone, Copy, PartialEq, Eq)]
 pub enum SignalsError {
     /// There are more than 65,536. The place is that of the identifier of the port or signal that has the first one too many.
     TooMany(Place),

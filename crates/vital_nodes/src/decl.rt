@@ -6,14 +6,14 @@ use crate::shared::Shared;
 use sqlite_items::Items;
 
 /// A type's name, and the range behind `range` if one is written.
-#[derive(Debug, Drop)]
+#[derive(Drop)]
 pub struct Subtype {
     pub name: Reference,
     pub range: Option<Range>,
 }
 
 /// The word before the identifiers of an interface.
-#[derive(Clone, Copy, Debug, PartialEq, Eq)]
+#[derive(Clone, Copy, PartialEq, Eq)]
 pub enum IfaceClass {
     Constant,
     Signal,
@@ -30,7 +30,7 @@ pub enum Mode {
 }
 
 /// What stands around the identifiers of an interface.
-#[derive(Debug, Drop)]
+#[derive(Drop)]
 pub struct IfaceParts {
     pub class: Option<IfaceClass>,
     /// `in` where none is written.
@@ -42,7 +42,7 @@ pub struct IfaceParts {
 }
 
 /// A generic or a port: one for each identifier, and those that are declared together share their parts.
-#[derive(Debug, Drop)]
+#[derive(Drop)]
 pub struct Iface {
     pub identifier: Identifier,
     pub parts: Shared<IfaceParts>,
@@ -51,7 +51,7 @@ pub struct Iface {
 }
 
 /// What an object is declared as.
-#[derive(Clone, Copy, Debug, PartialEq, Eq)]
+#[derive(Clone, Copy, PartialEq, Eq)]
 pub enum ObjectClass {
     Constant,
     Signal,
@@ -59,14 +59,14 @@ pub enum ObjectClass {
 }
 
 /// What stands after the identifiers of an object.
-#[derive(Debug, Drop)]
+#[derive(Drop)]
 pub struct ObjectParts {
     pub subtype: Subtype,
     pub value: Option<Expr>,
 }
 
 /// A constant, a signal or a variable: one for each identifier, and those that are declared together share their parts.
-#[derive(Debug, Drop)]
+#[derive(Drop)]
 pub struct Object {
     pub class: ObjectClass,
     pub identifier: Identifier,
@@ -76,7 +76,7 @@ pub struct Object {
 }
 
 /// What an attribute is specified of.
-#[derive(Debug, Drop)]
+#[derive(Drop)]
 pub enum Designator {
     Identifier(Identifier),
     All,
@@ -84,7 +84,7 @@ pub enum Designator {
 }
 
 /// The class of entities that an attribute is specified of (IEEE 1076-1993, 5.1).
-#[derive(Clone, Copy, Debug, PartialEq, Eq)]
+#[derive(Clone, Copy, PartialEq, Eq)]
 pub enum EntityClass {
     Entity,
     Architecture,
@@ -94,7 +94,7 @@ pub enum EntityClass {
 }
 
 /// `attribute X of D : class is value`.
-#[derive(Debug, Drop)]
+#[derive(Drop)]
 pub struct Specification {
     pub identifier: Identifier,
     pub designator: Designator,
@@ -103,7 +103,7 @@ pub struct Specification {
 }
 
 /// `alias X : subtype is name`.
-#[derive(Debug, Drop)]
+#[derive(Drop)]
 pub struct Alias {
     pub identifier: Identifier,
     pub subtype: Option<Subtype>,
@@ -111,7 +111,7 @@ pub struct Alias {
 }
 
 /// A component with its generics and ports.
-#[derive(Debug, Drop)]
+#[derive(Drop)]
 pub struct Component {
     pub identifier: Identifier,
     pub generics: Items<Iface>,
@@ -119,7 +119,7 @@ pub struct Component {
 }
 
 /// A declaration: one for each identifier.
-#[derive(Debug, Drop)]
+#[derive(Drop)]
 pub enum Decl {
     /// `attribute X : type`.
     Attribute(Identifier, Reference),

@@ -16,7 +16,7 @@ pub enum Logical {
 }
 
 /// A relational operator (IEEE 1076-1993, 7.2.2).
-#[derive(Clone, Copy, Debug, PartialEq, Eq)]
+#[derive(Clone, Copy, PartialEq, Eq)]
 pub enum Relational {
     Equal,
     NotEqual,
@@ -27,14 +27,14 @@ pub enum Relational {
 }
 
 /// A sign before the first term of a sum (IEEE 1076-1993, 7.2.5).
-#[derive(Clone, Copy, Debug, PartialEq, Eq)]
+#[derive(Clone, Copy, PartialEq, Eq)]
 pub enum Sign {
     Plus,
     Minus,
 }
 
 /// An operator between the terms of a sum (IEEE 1076-1993, 7.2.4).
-#[derive(Clone, Copy, Debug, PartialEq, Eq)]
+#[derive(Clone, Copy, PartialEq, Eq)]
 pub enum Adding {
     Add,
     Subtract,
@@ -42,7 +42,7 @@ pub enum Adding {
 }
 
 /// An operator between the factors of a term (IEEE 1076-1993, 7.2.6).
-#[derive(Clone, Copy, Debug, PartialEq, Eq)]
+#[derive(Clone, Copy, PartialEq, Eq)]
 pub enum Multiplying {
     Multiply,
     Divide,
@@ -56,7 +56,7 @@ pub enum Direction {
 }
 
 /// A number before a unit, as `0.100 ns`.
-#[derive(Debug, Drop)]
+#[derive(Drop)]
 pub struct Physical {
     pub place: Place,
     /// The number as it stands.
@@ -67,7 +67,7 @@ pub struct Physical {
 /// An expression. A chain of operators of one level is one node, so that an expression is nested no deeper than its
 /// parentheses, but for the levels of operators between them.
 #[cycle(expr)]
-#[derive(Debug, Drop)]
+#[derive(Drop)]
 pub enum Expr {
     /// Two or more relations with one logical operator between them.
     Logical(Place, Logical, Items<Expr>),
@@ -92,7 +92,7 @@ pub enum Expr {
 
 /// Two sums and the relational operator between them.
 #[cycle(expr)]
-#[derive(Debug, Drop)]
+#[derive(Drop)]
 pub struct Relation {
     pub place: Place,
     pub operator: Relational,
@@ -102,7 +102,7 @@ pub struct Relation {
 
 /// A sum with a sign or with two terms or more.
 #[cycle(expr)]
-#[derive(Debug, Drop)]
+#[derive(Drop)]
 pub struct Sum {
     pub place: Place,
     pub sign: Option<Sign>,
@@ -113,7 +113,7 @@ pub struct Sum {
 
 /// A product of two factors or more.
 #[cycle(expr)]
-#[derive(Debug, Drop)]
+#[derive(Drop)]
 pub struct Product {
     pub place: Place,
     pub first: Expr,
@@ -123,7 +123,7 @@ pub struct Product {
 
 /// A name: an identifier, and what follows it (IEEE 1076-1993, clause 6).
 #[cycle(expr)]
-#[derive(Debug, Drop)]
+#[derive(Drop)]
 pub struct Reference {
     pub identifier: Identifier,
     pub suffixes: Items<Suffix>,
@@ -131,7 +131,7 @@ pub struct Reference {
 
 /// A part of a name after its identifier.
 #[cycle(expr)]
-#[derive(Debug, Drop)]
+#[derive(Drop)]
 pub enum Suffix {
     /// `.` and an identifier.
     Selected(Identifier),
@@ -147,7 +147,7 @@ pub enum Suffix {
 
 /// An item of a list in parentheses: an association, an element of an aggregate, an index or a slice.
 #[cycle(expr)]
-#[derive(Debug, Drop)]
+#[derive(Drop)]
 pub enum Item {
     /// `others`, at its place, and its value.
     Others(Place, Boxed<Expr>),
@@ -160,7 +160,7 @@ pub enum Item {
 
 /// A formal or a choice, and its actual or value behind `=>`.
 #[cycle(expr)]
-#[derive(Debug, Drop)]
+#[derive(Drop)]
 pub struct Association {
     pub formal: Choice,
     pub actual: Actual,
@@ -168,7 +168,7 @@ pub struct Association {
 
 /// A value or a range.
 #[cycle(expr)]
-#[derive(Debug, Drop)]
+#[derive(Drop)]
 pub enum Choice {
     Value(Expr),
     Range(Boxed<Range>),
@@ -176,7 +176,7 @@ pub enum Choice {
 
 /// Two bounds and the direction between them (IEEE 1076-1993, 3.1).
 #[cycle(expr)]
-#[derive(Debug, Drop)]
+#[derive(Drop)]
 pub struct Range {
     pub left: Expr,
     pub direction: Direction,
@@ -185,7 +185,7 @@ pub struct Range {
 
 /// What an arrow points from.
 #[cycle(expr)]
-#[derive(Debug, Drop)]
+#[derive(Drop)]
 pub enum Actual {
     Value(Expr),
     /// `open`, at its place.

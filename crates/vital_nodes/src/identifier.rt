@@ -14,7 +14,7 @@ const EXTENDED_IDENTIFIER: u16 = Kind::ExtendedIdentifier as u16;
 
 /// The name of an identifier: a basic identifier in lower case that is no reserved word, or an extended identifier as it
 /// stands (IEEE 1076-1993, 13.3). Identifiers are the same where their names are.
-#[derive(Debug, Drop)]
+#[derive(Drop)]
 pub struct IdentifierName {
     name: Name,
 }
@@ -75,7 +75,7 @@ impl IdentifierName {
 }
 
 /// An identifier where it stands.
-#[derive(Debug, Drop)]
+#[derive(Drop)]
 pub struct Identifier {
     pub place: Place,
     pub name: IdentifierName,

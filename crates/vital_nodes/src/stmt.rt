@@ -7,14 +7,14 @@ use sqlite_items::Items;
 use vital_base::Place;
 
 /// `target := value` (IEEE 1076-1993, 8.5).
-#[derive(Debug, Drop)]
+#[derive(Drop)]
 pub struct VariableAssignment {
     pub target: Reference,
     pub value: Expr,
 }
 
 /// `target <= value`, and after how long if that is written (IEEE 1076-1993, 8.4).
-#[derive(Debug, Drop)]
+#[derive(Drop)]
 pub struct SignalAssignment {
     pub target: Reference,
     pub value: Expr,
@@ -23,7 +23,7 @@ pub struct SignalAssignment {
 
 /// A condition, and the statements that are executed where it holds.
 #[cycle(stmt)]
-#[derive(Debug, Drop)]
+#[derive(Drop)]
 pub struct Branch {
     pub condition: Expr,
     pub statements: Items<Stmt>,
@@ -31,7 +31,7 @@ pub struct Branch {
 
 /// `if` with its branches, of which there is at least one, and the statements after `else`, if that is written.
 #[cycle(stmt)]
-#[derive(Debug, Drop)]
+#[derive(Drop)]
 pub struct If {
     pub branches: Items<Branch>,
     pub otherwise: Option<Items<Stmt>>,
@@ -39,7 +39,7 @@ pub struct If {
 
 /// A statement of a process.
 #[cycle(stmt)]
-#[derive(Debug, Drop)]
+#[derive(Drop)]
 pub enum Stmt {
     VariableAssignment(Place, VariableAssignment),
     SignalAssignment(Place, SignalAssignment),
@@ -50,7 +50,7 @@ pub enum Stmt {
 }
 
 /// A process, without its label.
-#[derive(Debug, Drop)]
+#[derive(Drop)]
 pub struct Process {
     /// The names of its sensitivity list. There are none where it has no list.
     pub sensitivity: Items<Reference>,
@@ -59,7 +59,7 @@ pub struct Process {
 }
 
 /// An instance with its associations. A list is empty where it is not written.
-#[derive(Debug, Drop)]
+#[derive(Drop)]
 pub struct Instance {
     pub label: Identifier,
     pub unit: Reference,
@@ -69,7 +69,7 @@ pub struct Instance {
 
 /// A block from its keyword on.
 #[cycle(conc)]
-#[derive(Debug, Drop)]
+#[derive(Drop)]
 pub struct Block {
     pub declarations: Items<Decl>,
     pub statements: Items<Conc>,
@@ -77,7 +77,7 @@ pub struct Block {
 
 /// A concurrent statement.
 #[cycle(conc)]
-#[derive(Debug, Drop)]
+#[derive(Drop)]
 pub enum Conc {
     /// A process, after its label if it has one.
     Process(Place, Option<Identifier>, Process),

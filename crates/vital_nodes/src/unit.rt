@@ -7,7 +7,7 @@ use sqlite_items::Items;
 use vital_base::{List, Place};
 
 /// An entity declaration.
-#[derive(Debug, Drop)]
+#[derive(Drop)]
 pub struct Entity {
     pub place: Place,
     pub identifier: Identifier,
@@ -18,7 +18,7 @@ pub struct Entity {
 }
 
 /// An architecture body.
-#[derive(Debug, Drop)]
+#[derive(Drop)]
 pub struct Arch {
     pub place: Place,
     pub identifier: Identifier,
@@ -29,7 +29,7 @@ pub struct Arch {
 }
 
 /// A package declaration.
-#[derive(Debug, Drop)]
+#[derive(Drop)]
 pub struct Pack {
     pub place: Place,
     pub identifier: Identifier,
@@ -37,7 +37,7 @@ pub struct Pack {
 }
 
 /// A configuration declaration.
-#[derive(Debug, Drop)]
+#[derive(Drop)]
 pub struct Config {
     pub place: Place,
     pub identifier: Identifier,
@@ -48,7 +48,7 @@ pub struct Config {
 }
 
 /// A unit of a file.
-#[derive(Debug, Drop)]
+#[derive(Drop)]
 pub enum Unit {
     Entity(Entity),
     Arch(Arch),
@@ -57,14 +57,14 @@ pub enum Unit {
 }
 
 /// What the entities of a file are: cells of a library, or units of a netlist.
-#[derive(Clone, Copy, Debug, PartialEq, Eq)]
+#[derive(Clone, Copy, PartialEq, Eq)]
 pub enum Role {
     Lib,
     Net,
 }
 
 /// The units of a file, in order.
-#[derive(Debug, Drop)]
+#[derive(Drop)]
 pub struct Units {
     pub role: Role,
     pub units: List<Unit>,

@@ -27,7 +27,7 @@ use vital_typed_declarations::{
 };
 
 /// The value of a constant of a cell. It names constants before it, and generics where it is a time or a delay.
-#[derive(Debug, Drop)]
+#[derive(Drop)]
 pub enum ConstantValue {
     Level(LevelExpr),
     Boolean(BooleanExpr),
@@ -39,7 +39,7 @@ pub enum ConstantValue {
 }
 
 /// A constant of a cell.
-#[derive(Debug, Drop)]
+#[derive(Drop)]
 pub struct Constant {
     pub name: Name,
     /// Constants that are declared together share it.

@@ -26,7 +26,7 @@ pub enum ControlValue {
 }
 
 /// The controls of a cell's checks and messages (IEEE 1076.4). Each is TRUE where it is not declared or has no default.
-#[derive(Clone, Copy, Debug, PartialEq, Eq)]
+#[derive(Clone, Copy, PartialEq, Eq)]
 pub struct Controls {
     /// Whether timing checks are executed.
     pub timing_checks_on: ControlValue,

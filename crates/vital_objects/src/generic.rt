@@ -23,7 +23,7 @@ use vital_typed_declarations::{
 };
 
 /// A timing generic, whose delay an SDF file may set (IEEE 1076.4).
-#[derive(Debug, Drop)]
+#[derive(Drop)]
 pub struct TimingGeneric {
     pub name: Name,
     /// What its name splits into. Ports are numbered from 0, as they are declared.
@@ -33,7 +33,7 @@ pub struct TimingGeneric {
 }
 
 /// A generic that is a delay and whose name does not split. It keeps its default.
-#[derive(Debug, Drop)]
+#[derive(Drop)]
 pub struct PlainGeneric {
     pub name: Name,
     /// Its default, or 0 for every change.

@@ -23,7 +23,7 @@ use vital_timing::Delay;
 use vital_typed_declarations::{TypedValue, asked_of_object, read_value_if_given};
 
 /// What a constant of a package is worth. It names nothing but constants of packages before it.
-#[derive(Debug, Drop)]
+#[derive(Drop)]
 pub enum PackageValue {
     Level(LevelExpr),
     Boolean(BooleanExpr),

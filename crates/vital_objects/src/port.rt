@@ -21,7 +21,7 @@ use vital_typed_declarations::{
 };
 
 /// One bit of the ports of a cell.
-#[derive(Debug, Drop)]
+#[derive(Drop)]
 pub struct Port {
     /// The name that is printed for it. It holds no underscore.
     pub name: Name,

@@ -19,7 +19,7 @@ use vital_nodes::{Decl, Object, ObjectClass};
 use vital_operands::printed_level;
 
 /// One bit of the internal signals of a cell.
-#[derive(Debug, Drop)]
+#[derive(Drop)]
 pub struct Signal {
     /// The name that is printed for it behind the path of its instance.
     pub name: Name,

@@ -26,7 +26,7 @@ use vital_typed_declarations::{
 };
 
 /// What a variable keeps, and its default if it has one, in which nothing is named but constants.
-#[derive(Debug, Drop)]
+#[derive(Drop)]
 pub enum VariableKind {
     /// A level. Without a default it begins as 'U'.
     Level(Option<LevelExpr>),
@@ -43,7 +43,7 @@ pub enum VariableKind {
 }
 
 /// A variable of a process.
-#[derive(Debug, Drop)]
+#[derive(Drop)]
 pub struct Variable {
     pub name: Name,
     /// Variables that are declared together share it.

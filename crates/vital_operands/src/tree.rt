@@ -8,7 +8,7 @@ use vital_nodes::Logical;
 use vital_timing::Delay;
 
 /// A constant that an expression names.
-#[derive(Debug, Drop)]
+#[derive(Drop)]
 pub enum ConstantName {
     /// A constant of the cell.
     Cell(Name),
@@ -18,7 +18,7 @@ pub enum ConstantName {
 
 /// An expression that gives a level (IEEE 1164).
 #[cycle(typed)]
-#[derive(Debug, Drop)]
+#[derive(Drop)]
 pub enum LevelExpr {
     Literal(Level),
     /// An internal signal, or an in or inout port.
@@ -39,7 +39,7 @@ pub enum LevelExpr {
 
 /// An expression that gives a vector of levels.
 #[cycle(typed)]
-#[derive(Debug, Drop)]
+#[derive(Drop)]
 pub enum VectorExpr {
     /// A vector variable, and its length.
     Variable(Name, usize),
@@ -54,7 +54,7 @@ pub enum VectorExpr {
 
 /// A call of VitalTruthTable (IEEE 1076.4, package VITAL_Primitives).
 #[cycle(typed)]
-#[derive(Debug, Drop)]
+#[derive(Drop)]
 pub struct TruthTableCall {
     pub table: ConstantName,
     pub inputs: VectorExpr,
@@ -70,7 +70,7 @@ pub enum Control {
 
 /// An expression that gives a truth value.
 #[cycle(truth)]
-#[derive(Debug, Drop)]
+#[derive(Drop)]
 pub enum BooleanExpr {
     Literal(bool),
     Control(Control),
@@ -84,7 +84,7 @@ pub enum BooleanExpr {
 }
 
 /// An expression that gives a time.
-#[derive(Debug, Drop)]
+#[derive(Drop)]
 pub enum TimeExpr {
     Literal(Time),
     /// A generic of type VitalDelayType.
@@ -94,7 +94,7 @@ pub enum TimeExpr {
 }
 
 /// An expression that gives a delay.
-#[derive(Debug, Drop)]
+#[derive(Drop)]
 pub enum DelayExpr {
     Literal(Delay),
     Generic(Name),

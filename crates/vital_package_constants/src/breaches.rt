@@ -23,7 +23,7 @@ use vital_uses::identifier_of_node;
 use vital_walk::Node;
 
 /// Which clauses a cell breaks at each name of a constant of a package.
-#[derive(Clone, Copy, Debug, PartialEq, Eq)]
+#[derive(Clone, Copy, PartialEq, Eq)]
 pub struct ConstantBreaches {
     /// L1.3: it is no constant that Level 1 allows, or a call in its value makes a table wrong.
     pub clause_3: bool,

@@ -9,7 +9,7 @@ use vital_logic::Level;
 use vital_timing::Delay;
 
 /// A path from an input to the output of a path delay (IEEE 1076.4, VitalPathType).
-#[derive(Clone, Copy, Debug, PartialEq, Eq)]
+#[derive(Clone, Copy, PartialEq, Eq)]
 pub struct Path {
     /// How long ago the input changed, in femtoseconds.
     pub age: Time,

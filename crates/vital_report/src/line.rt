@@ -5,7 +5,7 @@ use vital_base::{Clause, Name, Time};
 use vital_logic::Level;
 
 /// One line that is printed. It holds its names by reference, so making one takes no memory.
-#[derive(Clone, Copy, Debug)]
+#[derive(Clone, Copy)]
 pub enum Line<'a> {
     /// `vital 1`, the first line of a run.
     Version,
@@ -101,7 +101,7 @@ pub enum Line<'a> {
 }
 
 /// A place as it is printed: the name of its file, and the line and the column in it, both from 1; or 0 and 0 for a whole file.
-#[derive(Clone, Copy, Debug)]
+#[derive(Clone, Copy)]
 pub struct Position<'a> {
     pub file: &'a [u8],
     pub line: u32,
@@ -109,7 +109,7 @@ pub struct Position<'a> {
 }
 
 /// Why the words of the command line are refused.
-#[derive(Clone, Copy, Debug, PartialEq, Eq)]
+#[derive(Clone, Copy, PartialEq, Eq)]
 pub enum UsageWhy {
     /// The first word is no command, or there is no word.
     Command,
@@ -139,7 +139,7 @@ impl UsageWhy {
 }
 
 /// Why a stimulus file is refused.
-#[derive(Clone, Copy, Debug, PartialEq, Eq)]
+#[derive(Clone, Copy, PartialEq, Eq)]
 pub enum StimulusWhy {
     /// A line is not one time, unit, port and value.
     Line,
@@ -175,7 +175,7 @@ impl StimulusWhy {
 }
 
 /// Why a VHDL text is no row of lexemes.
-#[derive(Clone, Copy, Debug, PartialEq, Eq)]
+#[derive(Clone, Copy, PartialEq, Eq)]
 pub enum LexicalWhy {
     /// No lexeme begins with the byte.
     Character,
@@ -196,7 +196,7 @@ impl LexicalWhy {
 }
 
 /// Which limit is passed, by files, by a cell or by a design.
-#[derive(Clone, Copy, Debug, PartialEq, Eq)]
+#[derive(Clone, Copy, PartialEq, Eq)]
 pub enum Limit {
     /// The length of a file.
     File,
@@ -247,7 +247,7 @@ impl Limit {
 }
 
 /// Why the units of a library do not go together.
-#[derive(Clone, Copy, Debug, PartialEq, Eq)]
+#[derive(Clone, Copy, PartialEq, Eq)]
 pub enum LibraryWhy {
     /// An entity, a package or a configuration has the name of an earlier one, or an entity has a second architecture of
     /// one name.
@@ -269,7 +269,7 @@ impl LibraryWhy {
 }
 
 /// Why a library has no design under a top, but for what a cell breaks.
-#[derive(Clone, Copy, Debug, PartialEq, Eq)]
+#[derive(Clone, Copy, PartialEq, Eq)]
 pub enum NetlistWhy {
     /// No entity has the name of the top.
     NoTop,

@@ -20,7 +20,7 @@ const ROOM: usize = 4_096;
 ///
 /// After a fault it has stopped: a prefix of what was to be written has been written, and each later call is a fault too and
 /// writes nothing.
-#[derive(Debug, Drop)]
+#[derive(Drop)]
 pub struct Reporter {
     /// Where a line is put together. No line is held in it between two calls.
     buffer: Vec<u8>,

@@ -15,7 +15,7 @@ use vital_timing::{DelayType, GlitchMode};
 
 /// A call of a path delay (IEEE 1076.4, VitalPathDelay, VitalPathDelay01 and VitalPathDelay01Z). Names of signals, headers and severities
 /// have no effect.
-#[derive(Debug, Drop)]
+#[derive(Drop)]
 pub struct PathDelay {
     /// The type of its delays, which says which of the three is called.
     pub delay_type: DelayType,

@@ -20,7 +20,7 @@ use vital_typed_statements::{TypedStatement, Value, read_statement};
 use vital_walk::all_sequential;
 
 /// A statement of the functionality of a process.
-#[derive(Debug, Drop)]
+#[derive(Drop)]
 pub enum FunctionalStatement {
     /// An assignment of a value to a variable, or to an element of one.
     Assignment(Target, Value),
@@ -28,7 +28,7 @@ pub enum FunctionalStatement {
 }
 
 /// The statements of a process in its sections, each in the order of the text.
-#[derive(Debug, Drop)]
+#[derive(Drop)]
 pub struct Sections {
     /// The timing checks, which are executed where TimingChecksOn holds.
     pub checks: Items<TimingCheck>,

@@ -15,7 +15,7 @@ use vital_operands::{ConstantName, VectorExpr};
 
 /// A call of VitalStateTable (IEEE 1076.4, package VITAL_Primitives). The columns of its table are the inputs, then the states, then the
 /// results.
-#[derive(Debug, Drop)]
+#[derive(Drop)]
 pub struct StateTable {
     pub table: ConstantName,
     /// The inputs.

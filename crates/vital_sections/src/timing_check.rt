@@ -13,7 +13,7 @@ use vital_names::Check;
 use vital_operands::{BooleanExpr, TimeExpr};
 
 /// What every timing check has. Names of signals, headers and severities have no effect.
-#[derive(Debug, Drop)]
+#[derive(Drop)]
 pub struct CheckParts {
     /// The X01 variable that says whether a violation was found.
     pub violation: Name,
@@ -28,7 +28,7 @@ pub struct CheckParts {
 }
 
 /// What a check of two signals has besides.
-#[derive(Debug, Drop)]
+#[derive(Drop)]
 pub struct ReferenceParts {
     /// The variable that keeps what it knows.
     pub timing_data: Name,
@@ -39,7 +39,7 @@ pub struct ReferenceParts {
 }
 
 /// A call of VitalSetupHoldCheck. Each time is 0 where it is not given.
-#[derive(Debug, Drop)]
+#[derive(Drop)]
 pub struct SetupHoldCheck {
     pub parts: CheckParts,
     pub reference: ReferenceParts,
@@ -50,7 +50,7 @@ pub struct SetupHoldCheck {
 }
 
 /// A call of VitalRecoveryRemovalCheck. Each time is 0 where it is not given.
-#[derive(Debug, Drop)]
+#[derive(Drop)]
 pub struct RecoveryRemovalCheck {
     pub parts: CheckParts,
     pub reference: ReferenceParts,
@@ -61,7 +61,7 @@ pub struct RecoveryRemovalCheck {
 }
 
 /// A call of VitalPeriodPulseCheck. Each time is 0 where it is not given.
-#[derive(Debug, Drop)]
+#[derive(Drop)]
 pub struct PeriodPulseCheck {
     pub parts: CheckParts,
     /// The variable that keeps what it knows.
@@ -72,7 +72,7 @@ pub struct PeriodPulseCheck {
 }
 
 /// A call of a timing check (IEEE 1076.4, package VITAL_Timing).
-#[derive(Debug, Drop)]
+#[derive(Drop)]
 pub enum TimingCheck {
     SetupHold(SetupHoldCheck),
     RecoveryRemoval(RecoveryRemovalCheck),

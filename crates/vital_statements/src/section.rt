@@ -17,7 +17,7 @@ use vital_nodes::{Conc, Process, Stmt};
 use vital_walk::{HasPlace, all_concurrent};
 
 /// A section of a process (IEEE 1076.4). They stand in this order.
-#[derive(Clone, Copy, Debug, PartialEq, Eq)]
+#[derive(Clone, Copy, PartialEq, Eq)]
 pub enum Section {
     /// The `if` of the timing checks.
     Checks,

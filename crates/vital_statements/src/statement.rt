@@ -28,7 +28,7 @@ pub fn as_process(conc: &Conc) -> Option<&Process>
 }
 
 /// A block with its label.
-#[derive(Clone, Copy, Debug)]
+#[derive(Clone, Copy)]
 pub struct LabelledBlock<'a> {
     pub label: &'a Identifier,
     pub block: &'a Block,

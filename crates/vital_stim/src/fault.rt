@@ -25,7 +25,7 @@ pub enum StimWhy {
 }
 
 /// The first line with a fault.
-#[derive(Clone, Copy, Debug, PartialEq, Eq)]
+#[derive(Clone, Copy, PartialEq, Eq)]
 pub struct StimFault {
     /// The number of the line, from 1.
     pub line: u32,
@@ -34,7 +34,7 @@ pub struct StimFault {
 }
 
 /// Why [`read_stim`](crate::read_stim) gives no stimuli.
-#[derive(Debug, Drop)]
+#[derive(Drop)]
 pub enum StimError {
     /// A line has a fault.
     Fault(StimFault),

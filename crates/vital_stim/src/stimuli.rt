@@ -4,7 +4,7 @@ use vital_base::{List, Ports, Time};
 use vital_logic::Level;
 
 /// One line of a stimulus file: from a time on a port has a value.
-#[derive(Clone, Copy, Debug, PartialEq, Eq)]
+#[derive(Clone, Copy, PartialEq, Eq)]
 pub struct StimLine {
     /// The time from the start of the run on, in femtoseconds: at most 2^60.
     pub time: Time,
@@ -15,7 +15,7 @@ pub struct StimLine {
 }
 
 /// The ports that lines may name, and the lines in order. No line's time is below that of a line before it.
-#[derive(Debug, Drop)]
+#[derive(Drop)]
 pub struct Stimuli {
     pub ports: Ports,
     pub lines: List<StimLine>,

@@ -11,7 +11,7 @@ use vital_names::LibraryNames;
 use vital_nodes::{Decl, Identifier, Iface, Object, ObjectClass};
 
 /// What a port or a declaration gives its unit.
-#[derive(Clone, Copy, Debug)]
+#[derive(Clone, Copy)]
 pub enum Content<'a> {
     Signal(UnitSignal<'a>),
     /// A port or a signal with a type or a default that it may not have.

@@ -16,7 +16,7 @@ use vital_names::put_first;
 use vital_nodes::Identifier;
 
 /// A fault of what a netlist unit declares.
-#[derive(Clone, Copy, Debug)]
+#[derive(Clone, Copy)]
 pub enum UnitFault<'a> {
     /// A port or a signal has a type or a default that it may not have.
     WrongType(&'a Identifier),

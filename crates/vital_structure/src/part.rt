@@ -11,7 +11,7 @@ use vital_nodes::{Choice, Item, Range, Suffix};
 use vital_walk::{LiteralBounds, literal_integer};
 
 /// What stands behind the identifier of a port or a signal.
-#[derive(Clone, Copy, Debug)]
+#[derive(Clone, Copy)]
 pub enum Part<'a> {
     /// Nothing: it is named as a whole.
     Whole,

@@ -15,7 +15,7 @@ use vital_nodes::{Direction, Iface};
 use vital_walk::LiteralBounds;
 
 /// What a port, a signal or a part of one is.
-#[derive(Clone, Copy, Debug)]
+#[derive(Clone, Copy)]
 pub enum Shape<'a> {
     /// One bit.
     Scalar,

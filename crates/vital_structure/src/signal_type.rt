@@ -15,7 +15,7 @@ use vital_operands::{printed_level, value_of_others};
 use vital_walk::listed_items;
 
 /// A type of levels, or of vectors of levels.
-#[derive(Clone, Copy, Debug)]
+#[derive(Clone, Copy)]
 pub struct SignalType<'a> {
     pub shape: Shape<'a>,
     /// Whether each bit is STD_LOGIC, which is resolved, and not STD_ULOGIC (IEEE 1164).

@@ -8,7 +8,7 @@ use vital_base::Place;
 use vital_nodes::{Arch, Conc, Entity, Instance};
 
 /// What a statement is in a netlist unit.
-#[derive(Clone, Copy, Debug)]
+#[derive(Clone, Copy)]
 pub enum Statement<'a> {
     Instance(&'a Instance),
     /// One that stands in no netlist, at its place.

@@ -48,7 +48,7 @@ impl<'a> Model for Structure<'a> {
 }
 
 /// Why a netlist unit has no structure.
-#[derive(Clone, Copy, Debug)]
+#[derive(Clone, Copy)]
 pub enum StructureError<'a> {
     /// A port or a declaration has a fault, first there.
     Fault(UnitFault<'a>),

@@ -12,7 +12,7 @@ use vital_names::LibraryNames;
 use vital_nodes::{Expr, Identifier, Iface, Mode, Object, Subtype};
 
 /// A port or a signal of a netlist unit.
-#[derive(Clone, Copy, Debug)]
+#[derive(Clone, Copy)]
 pub struct UnitSignal<'a> {
     pub identifier: &'a Identifier,
     /// The mode of a port. A declared signal has none.

@@ -19,7 +19,7 @@ use std::marker::Model;
 use vital_logic::Level;
 
 /// A table, with a mask of its rows for each column and each level that a symbol there may match. Contracts see it as the table.
-#[derive(Debug, Drop)]
+#[derive(Drop)]
 pub struct MaskTable {
     inputs: Vec<ChangeMasks>,
     states: Vec<LevelMasks>,

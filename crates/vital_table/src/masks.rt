@@ -6,7 +6,7 @@ ghost use Rattle.vital_table.specs.Masks.{change_mask_at, mask_at};
 use vital_logic::{Level, to_x01};
 
 /// For each of X, 0 and 1, the rows that match it.
-#[derive(Clone, Copy, Debug)]
+#[derive(Clone, Copy)]
 pub(crate) struct LevelMasks {
     pub(crate) x: u128,
     pub(crate) zero: u128,
@@ -14,7 +14,7 @@ pub(crate) struct LevelMasks {
 }
 
 /// For each change between X, 0 and 1, the rows that match it: by the previous level, and in it by the present level.
-#[derive(Clone, Copy, Debug)]
+#[derive(Clone, Copy)]
 pub(crate) struct ChangeMasks {
     pub(crate) from_x: LevelMasks,
     pub(crate) from_zero: LevelMasks,

@@ -10,7 +10,7 @@ use sqlite_items::Items;
 
 /// A table: how many of its columns are inputs, how many after them are states and how many after these are results, and its rows, each
 /// as the symbols of its columns. A truth table has no states. The rows are lent, as the constant that has them keeps them.
-#[derive(Clone, Copy, Debug)]
+#[derive(Clone, Copy)]
 pub struct Table<'a> {
     pub inputs: u32,
     pub states: u32,

@@ -19,7 +19,7 @@ use vital_nodes::{Expr, Item, Object};
 use vital_walk::{identifier_of, listed_items, positional_value};
 
 /// A table, as the symbols of its rows. Contracts see it as these.
-#[derive(Debug, Drop)]
+#[derive(Drop)]
 pub struct Table {
     rows: Items<Items<u8>>,
 }

@@ -7,7 +7,7 @@ use vital_base::Time;
 use vital_logic::Level;
 
 /// The limits of a check of setup and hold. High and low are the levels that the test signal is to have when the reference comes.
-#[derive(Clone, Copy, Debug, PartialEq, Eq)]
+#[derive(Clone, Copy, PartialEq, Eq)]
 pub struct SetupLimits {
     pub setup_high: Time,
     pub setup_low: Time,
@@ -16,7 +16,7 @@ pub struct SetupLimits {
 }
 
 /// The limits of a check of recovery and removal, and whether the test signal is active at 0 or at 1.
-#[derive(Clone, Copy, Debug, PartialEq, Eq)]
+#[derive(Clone, Copy, PartialEq, Eq)]
 pub struct RecoveryLimits {
     pub recovery: Time,
     pub removal: Time,
@@ -24,7 +24,7 @@ pub struct RecoveryLimits {
 }
 
 /// The limits of a check of periods and pulse widths: of a period, of a pulse at 1, and of a pulse at 0.
-#[derive(Clone, Copy, Debug, PartialEq, Eq)]
+#[derive(Clone, Copy, PartialEq, Eq)]
 pub struct PulseLimits {
     pub period: Time,
     pub high: Time,

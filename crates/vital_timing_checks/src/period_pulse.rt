@@ -12,7 +12,7 @@ use vital_logic::{Level, to_x01};
 
 /// What a check of periods and pulse widths keeps between its calls (IEEE 1076.4, VitalPeriodPulseCheck, PeriodData). Times are in
 /// femtoseconds.
-#[derive(Clone, Copy, Debug, PartialEq, Eq)]
+#[derive(Clone, Copy, PartialEq, Eq)]
 pub struct PeriodPulse {
     /// The level of the last call, as To_X01. None before the first.
     level: Option<Level>,

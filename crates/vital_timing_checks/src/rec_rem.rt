@@ -11,7 +11,7 @@ use vital_edges::EdgeSet;
 use vital_logic::{Level, to_x01};
 
 /// What a check of recovery and removal keeps between its calls (IEEE 1076.4, VitalRecoveryRemovalCheck, TimingData).
-#[derive(Clone, Copy, Debug, PartialEq, Eq)]
+#[derive(Clone, Copy, PartialEq, Eq)]
 pub struct RecRem {
     kept: TimingData,
 }

@@ -11,14 +11,14 @@ use vital_edges::EdgeSet;
 use vital_logic::{Level, to_byte, to_x01, to_x01z};
 
 /// The levels of the last call, without their strengths: the test signal's as To_X01Z, the reference signal's as To_X01.
-#[derive(Clone, Copy, Debug, PartialEq, Eq)]
+#[derive(Clone, Copy, PartialEq, Eq)]
 pub struct SignalLevels {
     pub test: Level,
     pub reference: Level,
 }
 
 /// The last reference edge: its time (RefTime), and whether hold is open, which it is until the next test event.
-#[derive(Clone, Copy, Debug, PartialEq, Eq)]
+#[derive(Clone, Copy, PartialEq, Eq)]
 pub struct ReferenceEdge {
     pub time: Time,
     pub is_open: bool,
@@ -26,7 +26,7 @@ pub struct ReferenceEdge {
 
 /// What is kept between calls (IEEE 1076.4, VitalTimingDataType). Times are in femtoseconds. Hold is open only after an edge, so
 /// that an open one has a known RefTime.
-#[derive(Clone, Copy, Debug, PartialEq, Eq)]
+#[derive(Clone, Copy, PartialEq, Eq)]
 pub struct TimingData {
     /// The levels of the last call. None before the first.
     pub levels: Option<SignalLevels>,
@@ -37,7 +37,7 @@ pub struct TimingData {
 }
 
 /// What a call tests: at a reference edge, and at a test event while hold is open.
-#[derive(Clone, Copy, Debug, PartialEq, Eq)]
+#[derive(Clone, Copy, PartialEq, Eq)]
 pub struct EventTests {
     pub on_reference: Option<LimitTest>,
     pub on_test: Option<LimitTest>,

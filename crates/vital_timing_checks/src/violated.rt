@@ -6,7 +6,7 @@ ghost use Rattle.vital_timing_checks.specs.Violations.{violated, violated_since}
 use vital_base::Time;
 
 /// What a check tests (IEEE 1076.4, package VITAL_Timing).
-#[derive(Clone, Copy, Debug, PartialEq, Eq)]
+#[derive(Clone, Copy, PartialEq, Eq)]
 pub enum CheckKind {
     Setup,
     Hold,
@@ -17,7 +17,7 @@ pub enum CheckKind {
 }
 
 /// A violation: what was tested, the time that was observed, and the limit that it is below, in femtoseconds.
-#[derive(Clone, Copy, Debug, PartialEq, Eq)]
+#[derive(Clone, Copy, PartialEq, Eq)]
 pub struct Violated {
     pub kind: CheckKind,
     pub observed: Time,
@@ -25,7 +25,7 @@ pub struct Violated {
 }
 
 /// A test that is to be made, with its limit in femtoseconds.
-#[derive(Clone, Copy, Debug, PartialEq, Eq)]
+#[derive(Clone, Copy, PartialEq, Eq)]
 pub struct LimitTest {
     pub kind: CheckKind,
     pub limit: Time,

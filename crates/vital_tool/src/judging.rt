@@ -16,14 +16,14 @@ use vital_names::LibraryNames;
 use vital_nodes::{Arch, Entity};
 
 /// A cell of a library: an entity with one of its architectures, or with none.
-#[derive(Clone, Copy, Debug)]
+#[derive(Clone, Copy)]
 pub struct Cell<'a> {
     pub entity: &'a Entity,
     pub arch: Option<&'a Arch>,
 }
 
 /// What is found in cells, one after the other: the levels of those before the first that passes a limit, and that limit, if one does.
-#[derive(Debug, Drop)]
+#[derive(Drop)]
 pub struct Judged {
     pub levels: Vec<CellLevel>,
     pub limit: Option<PassedLimit>,

@@ -13,7 +13,7 @@ use vital_base::{Name, Sink, WriteFault};
 use vital_report::{Limit, Line, Position, Printer};
 
 /// Why lines were not all printed.
-#[derive(Clone, Copy, Debug, PartialEq, Eq)]
+#[derive(Clone, Copy, PartialEq, Eq)]
 pub enum PrintError {
     /// The sink failed.
     WriteFault,

@@ -12,7 +12,7 @@ use vital_base::{Bytes, List, LoadError, Name, Shelf, read_file};
 use vital_words::{FileKind, NamedFile};
 
 /// A file that was loaded.
-#[derive(Debug, Drop)]
+#[derive(Drop)]
 pub struct Source {
     /// What it is read as.
     pub kind: FileKind,
@@ -21,7 +21,7 @@ pub struct Source {
 }
 
 /// Why files were not loaded.
-#[derive(Clone, Copy, Debug)]
+#[derive(Clone, Copy)]
 pub enum NotLoaded<'a> {
     /// The shelf failed.
     ReadFault,

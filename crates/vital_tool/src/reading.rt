@@ -26,7 +26,7 @@ use vital_words::FileKind;
 const MOST_TOKENS: u32 = 4_194_304;
 
 /// Why files were not read.
-#[derive(Clone, Copy, Debug, PartialEq, Eq)]
+#[derive(Clone, Copy, PartialEq, Eq)]
 pub enum Unread {
     Refused(Refusal),
     NoMemory,

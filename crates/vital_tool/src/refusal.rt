@@ -16,7 +16,7 @@ use vital_report::{
 use vital_words::{NamedFile, UsageFault, UsageWhy};
 
 /// How files are refused, and where. The number of a place's file counts the files from 0 in the order of their words.
-#[derive(Clone, Copy, Debug, PartialEq, Eq)]
+#[derive(Clone, Copy, PartialEq, Eq)]
 pub enum Refusal {
     /// No lexeme fits at the place.
     Lexical { place: Place, why: LexicalWhy },

@@ -15,7 +15,7 @@ use vital_stim::StimLine;
 
 /// The signals of ports, each with one driver: the agenda of their drivers, the drivers that were due in the last cycle, and
 /// the value of each signal.
-#[derive(Debug, Drop)]
+#[derive(Drop)]
 pub struct Signals {
     agenda: QueueAgenda,
     due: Due,

@@ -16,7 +16,7 @@ use vital_statements::{as_block, as_process, statements_of};
 use vital_walk::plain_identifier;
 
 /// A process of a cell.
-#[derive(Debug, Drop)]
+#[derive(Drop)]
 pub struct CellProcess {
     /// The bits to which it is sensitive, by their numbers from 0 among those of the ports and then of the internal signals, in the order of
     /// its list.

@@ -26,7 +26,7 @@ use vital_uses::CellStatements;
 /// The typed tree of a cell (IEEE 1076.4, Level 1). Names are kept: a name in a process means what is declared in it, and else what the
 /// cell declares. Its size is in proportion to the text of the cell: objects that are declared together share their value, and all cells
 /// share what the constants of packages are worth.
-#[derive(Debug, Drop)]
+#[derive(Drop)]
 pub struct TypedCell {
     /// The bits of the ports, in order. Bits are numbered from 0: those of the ports, and then those of the internal signals.
     pub ports: Items<Port>,

@@ -14,7 +14,7 @@ use vital_nodes::Conc;
 use vital_objects::name_of;
 
 /// A call of VitalWireDelay (IEEE 1076.4), which is executed as a process of its own that is sensitive to its port.
-#[derive(Debug, Drop)]
+#[derive(Drop)]
 pub struct WireDelay {
     /// The internal signal that it drives.
     pub signal: Name,

@@ -15,7 +15,7 @@ use vital_timing::DelayType;
 use vital_walk::LiteralBounds;
 
 /// The type that is asked of a value or a default.
-#[derive(Clone, Copy, Debug, PartialEq, Eq)]
+#[derive(Clone, Copy, PartialEq, Eq)]
 pub enum AskedType {
     Level,
     /// A vector of so many levels.

@@ -26,7 +26,7 @@ use vital_timing::DelayType;
 use vital_walk::identifier_of;
 
 /// A value or a default of the type that is asked of it.
-#[derive(Debug, Drop)]
+#[derive(Drop)]
 pub enum TypedValue {
     Level(LevelExpr),
     Vector(VectorExpr),

@@ -16,7 +16,7 @@ use vital_expr::Reader;
 use vital_nodes::Item;
 
 /// An actual that is of its form, and the name of its formal in lower case.
-#[derive(Debug, Drop)]
+#[derive(Drop)]
 pub struct GivenActual {
     pub formal: Name,
     pub actual: Actual,

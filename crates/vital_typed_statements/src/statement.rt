@@ -24,7 +24,7 @@ use vital_nodes::{Branch, Expr, Stmt, VariableAssignment};
 use vital_operands::{BooleanExpr, LevelExpr, VectorExpr};
 
 /// A value that is assigned.
-#[derive(Debug, Drop)]
+#[derive(Drop)]
 pub enum Value {
     Level(LevelExpr),
     /// A vector as long as its target.
@@ -32,7 +32,7 @@ pub enum Value {
 }
 
 /// A statement of a process, without those that stand in it, or a concurrent call.
-#[derive(Debug, Drop)]
+#[derive(Drop)]
 pub enum TypedStatement {
     Assignment(Target, Value),
     /// A call of a procedure, with an actual for each of its items, in their order.

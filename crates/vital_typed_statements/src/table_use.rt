@@ -26,7 +26,7 @@ use vital_operands::{Position, TableActuals, is_table, table_actuals};
 use vital_walk::{Node, actual, identifier_of};
 
 /// A constant that is a table.
-#[derive(Clone, Copy, Debug, PartialEq, Eq)]
+#[derive(Clone, Copy, PartialEq, Eq)]
 pub enum UsedTable {
     /// One of the cell, by the place of its identifier.
     Cell(Place),
@@ -35,7 +35,7 @@ pub enum UsedTable {
 }
 
 /// A call that uses a table.
-#[derive(Clone, Copy, Debug, PartialEq, Eq)]
+#[derive(Clone, Copy, PartialEq, Eq)]
 pub struct TableUse {
     pub table: UsedTable,
     pub kind: TableType,

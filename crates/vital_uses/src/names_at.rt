@@ -11,7 +11,7 @@ use vital_names::put_first;
 use vital_nodes::Identifier;
 
 /// A name, borrowed from an identifier, and where it stands.
-#[derive(Clone, Copy, Debug)]
+#[derive(Clone, Copy)]
 pub struct NameAt<'a> {
     pub name: &'a [u8],
     pub place: Place,

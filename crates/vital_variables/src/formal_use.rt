@@ -6,7 +6,7 @@ ghost use Rattle.vital_variables.specs.FormalUses as spec;
 use vital_calls::ActualForm;
 
 /// What a procedure does with what is given to a formal.
-#[derive(Clone, Copy, Debug, PartialEq, Eq)]
+#[derive(Clone, Copy, PartialEq, Eq)]
 pub enum FormalUse {
     /// It keeps its state there from call to call: the formals GlitchData, TimingData and PeriodData.
     State,

@@ -6,7 +6,7 @@ ghost use Rattle.vital_vhdl.specs.declared.shape_error.ShapeError.TheVariants.{N
 use std::alloc::{AllocError, AllocFailed};
 
 /// Why a part of a shape was not made.
-#[derive(Clone, Copy, Debug, PartialEq, Eq)]
+#[derive(Clone, Copy, PartialEq, Eq)]
 pub(crate) enum ShapeError {
     /// There was no memory for it.
     NoMemory,

@@ -7,7 +7,7 @@ ghost use Rattle.vital_walk.specs.Seen.{seen};
 use vital_nodes::{Conc, Decl, Expr, Iface, Item, Reference, Stmt};
 
 /// A node of a unit, borrowed from it.
-#[derive(Clone, Copy, Debug)]
+#[derive(Clone, Copy)]
 pub enum Node<'a> {
     /// A declaration.
     Declaration(&'a Decl),

@@ -8,7 +8,7 @@ use vital_base::Name;
 use vital_nodes::{Choice, Direction, Expr, Item, Range, Reference, Subtype, Suffix};
 
 /// Two literal bounds and the direction between them.
-#[derive(Clone, Copy, Debug)]
+#[derive(Clone, Copy)]
 pub struct LiteralBounds<'a> {
     /// The left bound as it stands: digits and underscores.
     pub left: &'a Name,

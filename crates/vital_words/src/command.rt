@@ -6,7 +6,7 @@ ghost use Rattle.vital_words.specs.Commands.{command_named, rules_of};
 use crate::key::{FileKind, Key};
 
 /// A command. It is the first word.
-#[derive(Clone, Copy, Debug, PartialEq, Eq)]
+#[derive(Clone, Copy, PartialEq, Eq)]
 pub enum Command {
     /// Play a stimulus file.
     Play,
@@ -17,7 +17,7 @@ pub enum Command {
 }
 
 /// How a command takes a key.
-#[derive(Clone, Copy, Debug, PartialEq, Eq)]
+#[derive(Clone, Copy, PartialEq, Eq)]
 pub struct KeyRule {
     pub key: Key,
     /// How often the key may come.

@@ -14,7 +14,7 @@ use std::alloc::{AllocError, Global};
 use vital_base::{List, Name, Time, Word};
 
 /// What the words of a command line ask for.
-#[derive(Debug, Drop)]
+#[derive(Drop)]
 pub struct Job {
     /// The files that they name, in the order of the words.
     pub files: List<NamedFile>,
@@ -23,14 +23,14 @@ pub struct Job {
 }
 
 /// A file that a word names.
-#[derive(Debug, Drop)]
+#[derive(Drop)]
 pub struct NamedFile {
     pub kind: FileKind,
     pub name: Name,
 }
 
 /// What is done with the files of a job.
-#[derive(Debug, Drop)]
+#[derive(Drop)]
 pub enum Task {
     /// Their stimuli are played.
     Play(Play),
@@ -41,7 +41,7 @@ pub enum Task {
 }
 
 /// What `play` plays.
-#[derive(Clone, Copy, Debug)]
+#[derive(Clone, Copy)]
 pub struct Play {
     /// The number of the stimulus file, counted from 0 among the files of the job.
     pub stim: usize,
@@ -50,14 +50,14 @@ pub struct Play {
 }
 
 /// What `tree` prints.
-#[derive(Debug, Drop)]
+#[derive(Drop)]
 pub struct Tree {
     /// The name of the top of the design, in small letters.
     pub top: Name,
 }
 
 /// Why there is no job.
-#[derive(Clone, Copy, Debug, PartialEq, Eq)]
+#[derive(Clone, Copy, PartialEq, Eq)]
 pub enum JobError {
     Usage(UsageFault),
     NoMemory,

@@ -13,7 +13,7 @@ use vital_identifiers::is_basic_identifier;
 const LONGEST_FILE_NAME: usize = 4_096;
 
 /// What a file is read as.
-#[derive(Clone, Copy, Debug, PartialEq, Eq)]
+#[derive(Clone, Copy, PartialEq, Eq)]
 pub enum FileKind {
     /// VHDL of a cell library.
     Lib,
@@ -24,7 +24,7 @@ pub enum FileKind {
 }
 
 /// A key of a word.
-#[derive(Clone, Copy, Debug, PartialEq, Eq)]
+#[derive(Clone, Copy, PartialEq, Eq)]
 pub enum Key {
     /// A file of a kind.
     File(FileKind),

@@ -24,7 +24,7 @@ pub enum UsageWhy {
 }
 
 /// The first word that is refused, counted from 1, and why. A key that is missing is missing after the last word.
-#[derive(Clone, Copy, Debug, PartialEq, Eq)]
+#[derive(Clone, Copy, PartialEq, Eq)]
 pub struct UsageFault {
     pub word: u64,
     pub why: UsageWhy,
