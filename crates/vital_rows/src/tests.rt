@@ -22,7 +22,7 @@ use std::test::Fail;
 use vital_base::Place;
 use vital_lex::TextFault;
 use vital_ll::Rules;
-use vital_vhdl::{Mode, Role, Unit, UnitError, read_units, vhdl_rules};
+use vital_vhdl::{Entity, Identifier, Mode, Role, Unit, UnitError, Units, read_units, vhdl_rules};
 use vital_walk::nodes;
 
 /// A rule of the grammar, a text, and the line and the column of its first wrong token, which stands in that rule.
@@ -65,6 +65,24 @@ fn fault(
     }
 }
 
+/// How many rows, one after the other, are refused at their places, up to the first that is not.
+fn refused_at_their_places(
+    alloc: Global,
+    rules: &Rules,
+    rows: &[Refused],
+) -> Result<usize, UnitError>
+    requires { rules.now ≡ grammar }
+{
+    let mut count = 0usize;
+    for (_, text, place) in rows {
+        if refusal(alloc, rules, text)? != Some(*place) {
+            return Ok(count);
+        }
+        count = count.wrapping_add(1);
+    }
+    Ok(count)
+}
+
 #[test]
 fn refuses_each_rule_at_its_first_wrong_token(rt: HostRuntime) -> Result<(), Fail> {
     let rules = vhdl_rules(rt.alloc())?;
@@ -75,11 +93,24 @@ fn refuses_each_rule_at_its_first_wrong_token(rt: HostRuntime) -> Result<(), Fai
         &expressions::REFUSED,
     ];
     for table in tables {
-        for (rule, text, place) in table {
-            assert_eq!(rt; refusal(rt.alloc(), &rules, text)?, Some(*place), "{rule}");
-        }
+        let refused = refused_at_their_places(rt.alloc(), &rules, table)?;
+        assert_eq!(rt; refused, table.len());
     }
     Ok(())
+}
+
+/// How many texts, one after the other, are read, up to the first that is not.
+fn read_as_a_whole(alloc: Global, rules: &Rules, texts: &[&[u8]]) -> Result<usize, UnitError>
+    requires { rules.now ≡ grammar }
+{
+    let mut count = 0usize;
+    for text in texts {
+        if refusal(alloc, rules, text)?.is_some() {
+            return Ok(count);
+        }
+        count = count.wrapping_add(1);
+    }
+    Ok(count)
 }
 
 #[test]
@@ -92,9 +123,8 @@ fn reads_each_rule(rt: HostRuntime) -> Result<(), Fail> {
         &expressions::READ,
     ];
     for table in tables {
-        for text in table {
-            assert_eq!(rt; refusal(rt.alloc(), &rules, text)?, None);
-        }
+        let read = read_as_a_whole(rt.alloc(), &rules, table)?;
+        assert_eq!(rt; read, table.len());
     }
     Ok(())
 }
@@ -112,22 +142,64 @@ fn refuses_each_reserved_word_as_a_name(rt: HostRuntime) -> Result<(), Fail> {
 }
 
 #[test]
-fn reads_up_to_each_limit(rt: HostRuntime) -> Result<(), Fail> {
+fn reads_up_to_the_room_of_tokens(rt: HostRuntime) -> Result<(), Fail> {
     let rules = vhdl_rules(rt.alloc())?;
     let text = b"entity E is end;";
     assert_eq!(rt; fault(rt.alloc(), &rules, text, 5)?, None);
     let too_many = TextFault::TooManyTokens { offset: 15 };
     assert_eq!(rt; fault(rt.alloc(), &rules, text, 4)?, Some(too_many));
+    Ok(())
+}
+
+/// The faults of a text that is nested 64 levels deep, and of one that is nested 65 levels deep.
+fn faults_of_depths(
+    alloc: Global,
+    rules: &Rules,
+    nest: &limits::Nest,
+) -> Result<(Option<TextFault>, Option<TextFault>), UnitError>
+    requires { rules.now ≡ grammar }
+{
+    let deepest = nest.text(alloc, 64)?;
+    let too_deep = nest.text(alloc, 65)?;
+    let read = fault(alloc, rules, &deepest, 2000)?;
+    Ok((read, fault(alloc, rules, &too_deep, 2000)?))
+}
+
+#[test]
+fn reads_up_to_each_depth(rt: HostRuntime) -> Result<(), Fail> {
+    let rules = vhdl_rules(rt.alloc())?;
     for nest in &limits::NESTS {
-        let read = nest.text(rt.alloc(), 64)?;
-        assert_eq!(rt; fault(rt.alloc(), &rules, &read, 2000)?, None);
-        let refused = nest.text(rt.alloc(), 65)?;
         let too_deep = TextFault::TooDeep {
             offset: nest.refused_at,
         };
-        assert_eq!(rt; fault(rt.alloc(), &rules, &refused, 2000)?, Some(too_deep));
+        let found = faults_of_depths(rt.alloc(), &rules, nest)?;
+        assert_eq!(rt; found, (None, Some(too_deep)));
     }
     Ok(())
+}
+
+/// Whether an identifier of file 7 has this name, and stands at this line and column.
+fn is_identifier(identifier: &Identifier, name: &[u8], place: (u32, u32)) -> bool {
+    let Place { file, line, column } = identifier.place;
+    file == 7 && (line, column) == place && identifier.name.as_slice() == name
+}
+
+/// Whether an entity has the name `\Ab\` and two ports, of which the second is an output with the name `bc`.
+fn is_entity_of_two_ports(entity: &Entity) -> bool {
+    let [_, port] = entity.ports.as_slice() else {
+        return false;
+    };
+    is_identifier(&entity.identifier, b"\\Ab\\", (1, 8))
+        && is_identifier(&port.identifier, b"bc", (2, 12))
+        && port.parts.get().mode == Mode::Out
+}
+
+/// Whether that entity alone is read, of 15 tokens, from a netlist file.
+fn is_read_whole(read: &Units) -> bool {
+    let [Unit::Entity(entity)] = read.units.as_slice() else {
+        return false;
+    };
+    read.tokens == 15 && read.role == Role::Net && is_entity_of_two_ports(entity)
 }
 
 #[test]
@@ -135,29 +207,7 @@ fn one_port_for_each_identifier_and_names_folded_once(rt: HostRuntime) -> Result
     let rules = vhdl_rules(rt.alloc())?;
     let text = b"entity \\Ab\\ is\n port (A1, Bc : out C);\nend;";
     let read = read_units(rt.alloc(), &rules, 7, Role::Net, text, 16)?;
-    assert_eq!(rt; read.tokens, 15);
-    assert!(rt; read.role == Role::Net);
-    assert_eq!(rt; read.units.as_slice().len(), 1);
-    let Unit::Entity(entity) = &read.units.as_slice()[0] else {
-        return Err(Fail::from("no entity"));
-    };
-    let place = Place {
-        file: 7,
-        line: 1,
-        column: 8,
-    };
-    assert_eq!(rt; entity.identifier.place, place);
-    assert_eq!(rt; entity.identifier.name.as_slice(), b"\\Ab\\".as_slice());
-    assert_eq!(rt; entity.ports.len(), 2);
-    let port = &entity.ports.as_slice()[1];
-    let place = Place {
-        file: 7,
-        line: 2,
-        column: 12,
-    };
-    assert_eq!(rt; port.identifier.place, place);
-    assert_eq!(rt; port.identifier.name.as_slice(), b"bc".as_slice());
-    assert!(rt; port.parts.get().mode == Mode::Out);
+    assert!(rt; is_read_whole(&read));
     Ok(())
 }
 
@@ -183,19 +233,31 @@ fn described(alloc: Global, rules: &Rules, text: &[u8]) -> Result<String, UnitEr
     Ok(lines)
 }
 
+/// What is described of a text in which a constant has an expression for its value.
+fn described_around(alloc: Global, rules: &Rules, expression: &str) -> Result<String, UnitError>
+    requires { rules.now ≡ grammar }
+{
+    let text = format!(in alloc; "{}{expression}{}", shapes::BEFORE, shapes::AFTER)?;
+    described(alloc, rules, text.as_bytes())
+}
+
 #[test]
 fn each_construct_has_the_nodes_that_the_grammar_gives_it(rt: HostRuntime) -> Result<(), Fail> {
     let rules = vhdl_rules(rt.alloc())?;
     for (text, lines) in &shapes::FILES {
-        assert_eq!(rt;
-            described(rt.alloc(), &rules, text.as_bytes())?.as_str(),
-            *lines
-        );
+        let found = described(rt.alloc(), &rules, text.as_bytes())?;
+        assert_eq!(rt; found.as_str(), *lines);
     }
+    Ok(())
+}
+
+#[test]
+fn each_expression_has_the_nodes_that_the_grammar_gives_it(rt: HostRuntime) -> Result<(), Fail> {
+    let rules = vhdl_rules(rt.alloc())?;
     for (expression, lines) in &shapes::EXPRESSIONS {
-        let text = format!(in rt.alloc(); "{}{expression}{}", shapes::BEFORE, shapes::AFTER)?;
+        let found = described_around(rt.alloc(), &rules, expression)?;
         let whole = format!(in rt.alloc(); "{}{lines}", shapes::HEAD)?;
-        assert_eq!(rt; described(rt.alloc(), &rules, text.as_bytes())?, whole);
+        assert_eq!(rt; found, whole);
     }
     Ok(())
 }

@@ -3,7 +3,7 @@
 ghost use Rattle.std.specs.Prelude.{◌≡◌};
 ghost use Rattle.vital_grammar.specs.Grammar.{grammar};
 
-use std::alloc::Global;
+use std::alloc::{AllocError, Global};
 use std::test::Fail;
 use vital_base::{List, Place};
 use vital_library::{Library, LibraryError, gather};
@@ -164,15 +164,25 @@ fn refusal(alloc: Global, rules: &Rules, texts: &[&[u8]]) -> Result<Option<Libra
     }
 }
 
+/// How many rows, one after the other, are refused as they say, up to the first that is not.
+fn agreeing(alloc: Global, rules: &Rules, rows: &[Row]) -> Result<usize, UnitError>
+    requires { rules.now ≡ grammar }
+{
+    let mut count = 0usize;
+    for (texts, found) in rows {
+        if refusal(alloc, rules, texts)? != refused_as(*found) {
+            return Ok(count);
+        }
+        count = count.wrapping_add(1);
+    }
+    Ok(count)
+}
+
 #[test]
 fn files_are_refused_at_the_fault_with_the_least_place(rt: HostRuntime) -> Result<(), Fail> {
     let rules = vhdl_rules(rt.alloc())?;
-    for (texts, found) in &DUPLICATES {
-        assert_eq!(rt; refusal(rt.alloc(), &rules, texts)?, refused_as(*found));
-    }
-    for (texts, found) in &MISSING {
-        assert_eq!(rt; refusal(rt.alloc(), &rules, texts)?, refused_as(*found));
-    }
+    assert_eq!(rt; agreeing(rt.alloc(), &rules, &DUPLICATES)?, 10);
+    assert_eq!(rt; agreeing(rt.alloc(), &rules, &MISSING)?, 7);
     Ok(())
 }
 
@@ -182,12 +192,65 @@ static SEVERAL: [&[u8]; 2] = [
     b"package P is end; architecture Y of A is begin end; entity B is end; architecture Z of B is begin end;",
 ];
 
-/// Its entities, with their roles and the names of their architectures.
-static ENTITIES: [(&[u8], Role, &[&[u8]]); 3] = [
+/// The name of an entity, its role, and the names of its architectures.
+type EntityRow = (&'static [u8], Role, &'static [&'static [u8]]);
+
+/// The entities of that library.
+static ENTITIES: [EntityRow; 3] = [
     (b"c", Role::Lib, &[]),
     (b"a", Role::Lib, &[b"y"]),
     (b"b", Role::Net, &[b"x", b"z"]),
 ];
+
+/// Whether an entity of a library has architectures of these names in order, and no more.
+fn has_archs(library: &Library, entity: u32, names: &[&[u8]]) -> bool {
+    if entity >= library.entity_count() {
+        return false;
+    }
+    let mut arch = 0u32;
+    for name in names {
+        if arch >= library.arch_count(entity) {
+            return false;
+        }
+        if library.arch(entity, arch).identifier.name.as_slice() != *name {
+            return false;
+        }
+        arch = arch.wrapping_add(1);
+    }
+    library.arch_count(entity) == arch
+}
+
+/// Whether the entity of a number in a library is that of a row.
+fn is_entity(library: &Library, entity: u32, row: &EntityRow) -> bool {
+    let (name, role, archs) = row;
+    if entity >= library.entity_count() {
+        return false;
+    }
+    library.entity(entity).identifier.name.as_slice() == *name
+        && library.entity_named(name) == Some(entity)
+        && library.role(entity) == *role
+        && has_archs(library, entity, archs)
+}
+
+/// How many entities of a library, one after the other, are those of the rows, up to the first that is not.
+fn entities_agreeing(library: &Library, rows: &[EntityRow]) -> u32 {
+    let mut entity = 0u32;
+    for row in rows {
+        if !is_entity(library, entity, row) {
+            return entity;
+        }
+        entity = entity.wrapping_add(1);
+    }
+    entity
+}
+
+/// Whether a library has two files, and the entities of the rows alone.
+fn has_entities(library: &Library) -> bool {
+    library.files().len() == 2
+        && library.entity_count() == 3
+        && entities_agreeing(library, &ENTITIES) == 3
+        && library.entity_named(b"p").is_none()
+}
 
 #[test]
 fn entities_and_their_architectures_stand_in_order(rt: HostRuntime) -> Result<(), Fail> {
@@ -195,52 +258,43 @@ fn entities_and_their_architectures_stand_in_order(rt: HostRuntime) -> Result<()
     let Ok(library) = gathered(rt.alloc(), &rules, &SEVERAL)? else {
         return Err(Fail::from("refused"));
     };
-    assert_eq!(rt; library.files().len(), 2);
-    assert_eq!(rt; library.entity_count(), 3);
-    let mut entity = 0u32;
-    for (name, role, archs) in &ENTITIES {
-        if entity >= library.entity_count() {
-            return Err(Fail::from("too few entities"));
-        }
-        assert_eq!(rt; library.entity(entity).identifier.name.as_slice(), *name);
-        assert_eq!(rt; library.entity_named(name), Some(entity));
-        assert!(rt; library.role(entity) == *role);
-        let mut arch = 0u32;
-        for arch_name in *archs {
-            if arch >= library.arch_count(entity) {
-                return Err(Fail::from("too few architectures"));
-            }
-            let found = library.arch(entity, arch).identifier.name.as_slice();
-            assert_eq!(rt; found, *arch_name);
-            arch = arch.wrapping_add(1);
-        }
-        assert_eq!(rt; library.arch_count(entity), arch);
-        entity = entity.wrapping_add(1);
-    }
-    assert_eq!(rt; library.entity_named(b"p"), None);
+    assert!(rt; has_entities(&library));
     Ok(())
+}
+
+/// Two packages with three constants, of which two have one name; and a signal, and a constant of an entity.
+static CONSTANTS: [&[u8]; 2] = [
+    b"package P is constant A, B : T := 1; signal S : T; end; entity E is constant C : T := 1; end;",
+    b"package Q is constant A : T := 2; end;",
+];
+
+/// The file and the column of each constant of a library.
+fn places_of_constants(alloc: Global, library: &Library) -> Result<String, AllocError> {
+    let mut places = String::new(alloc);
+    for constant in library.constants(alloc)? {
+        let place = constant.identifier.place;
+        let (file, column) = (place.file, place.column);
+        write!(places, "{file}:{column} ")?;
+    }
+    Ok(places)
+}
+
+/// Whether the constants `a` and `b` of a library have their numbers, and it has no constant `c`.
+fn numbers_constants(library: &Library) -> bool {
+    library.constant_named(b"a") == Some(0)
+        && library.constant_named(b"b") == Some(1)
+        && library.constant_named(b"c").is_none()
 }
 
 #[test]
 fn constants_are_those_of_packages_in_order(rt: HostRuntime) -> Result<(), Fail> {
     let rules = vhdl_rules(rt.alloc())?;
-    let texts: [&[u8]; 2] = [
-        b"package P is constant A, B : T := 1; signal S : T; end; entity E is constant C : T := 1; end;",
-        b"package Q is constant A : T := 2; end;",
-    ];
-    let Ok(library) = gathered(rt.alloc(), &rules, &texts)? else {
+    let Ok(library) = gathered(rt.alloc(), &rules, &CONSTANTS)? else {
         return Err(Fail::from("refused"));
     };
-    let mut names = String::new(rt.alloc());
-    for constant in library.constants(rt.alloc())? {
-        let place = constant.identifier.place;
-        let (file, column) = (place.file, place.column);
-        write!(names, "{file}:{column} ")?;
-    }
-    assert_eq!(rt; names.as_str(), "0:23 0:26 1:23 ");
-    assert_eq!(rt; library.constant_named(b"a"), Some(0));
-    assert_eq!(rt; library.constant_named(b"b"), Some(1));
-    assert_eq!(rt; library.constant_named(b"c"), None);
+    let places = places_of_constants(rt.alloc(), &library)?;
+    assert_eq!(rt; places.as_str(), "0:23 0:26 1:23 ");
+    assert!(rt; numbers_constants(&library));
     Ok(())
 }
 
@@ -255,19 +309,25 @@ fn packages(alloc: Global, count: u32) -> Result<String, UnitError> {
 }
 
 #[test]
+fn as_many_units_as_the_limit_are_gathered(rt: HostRuntime) -> Result<(), Fail> {
+    let rules = vhdl_rules(rt.alloc())?;
+    let most = packages(rt.alloc(), 4096)?;
+    let found = refusal(rt.alloc(), &rules, &[most.as_bytes()])?;
+    assert_eq!(rt; found, None);
+    Ok(())
+}
+
+#[test]
 fn the_first_unit_past_the_limit_is_refused(rt: HostRuntime) -> Result<(), Fail> {
     let rules = vhdl_rules(rt.alloc())?;
     let most = packages(rt.alloc(), 4096)?;
-    assert_eq!(rt; refusal(rt.alloc(), &rules, &[most.as_bytes()])?, None);
     let place = Place {
         file: 1,
         line: 1,
         column: 2,
     };
     let more: [&[u8]; 2] = [most.as_bytes(), b" package P0 is end;"];
-    assert_eq!(rt;
-        refusal(rt.alloc(), &rules, &more)?,
-        Some(LibraryError::TooManyUnits { place })
-    );
+    let found = refusal(rt.alloc(), &rules, &more)?;
+    assert_eq!(rt; found, Some(LibraryError::TooManyUnits { place }));
     Ok(())
 }

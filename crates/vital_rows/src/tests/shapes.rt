@@ -13,7 +13,7 @@ pub const AFTER: &str = "; end;";
 pub const HEAD: &str = "package 1:1 p | constant 1:23 k | name 1:27 t | ";
 
 /// Expressions, each with the lines of its nodes.
-pub const EXPRESSIONS: [Row; 44] = [
+pub static EXPRESSIONS: [Row; 44] = [
     ("A", "reference 1:32 | name 1:32 a"),
     (
         "A and B",
@@ -151,7 +151,7 @@ pub const EXPRESSIONS: [Row; 44] = [
 ];
 
 /// Files with declarations, statements and units.
-pub const FILES: [Row; 6] = [
+pub static FILES: [Row; 6] = [
     (
         "entity E is\n generic (G : T := A);\n port (constant A, B : in T;\n signal C : out T bus;\n D : inout T range 0 to 1;\n F : buffer T;\n H : linkage T;\n I : T);\nend;",
         "entity 1:1 e | interface 2:11 g in | name 2:15 t | reference 2:20 | name 2:20 a | interface 3:17 a, constant in | interface 3:20 b constant in | name 3:27 t | interface 4:9 c signal out bus | name 4:17 t | interface 5:2 d inout to | name 5:12 t | number 5:20 0 | number 5:25 1 | interface 6:2 f buffer | name 6:13 t | interface 7:2 h linkage | name 7:14 t | interface 8:2 i in | name 8:6 t",

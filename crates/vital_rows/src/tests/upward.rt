@@ -7,7 +7,7 @@ ghost use Rattle.vital_base.specs.declared.place.Place.{Place as Place'};
 ghost use Rattle.vital_nodes.specs.Places.{place_of};
 
 use sqlite_items::{Boxed, Items};
-use std::alloc::AllocError;
+use std::alloc::{AllocError, Global};
 use std::test::Fail;
 use vital_base::Place;
 use vital_nodes::{Choice, Expr, Item, Logical};
@@ -37,27 +37,34 @@ fn at(column: u32) -> Place {
     }
 }
 
-/// `'0' and ('1' or 'X') and not '0'`, with the places of its nodes.
-#[test]
-fn a_value_is_made_of_the_values_of_parts_in_order(rt: HostRuntime) -> Result<(), Fail> {
-    let alloc = rt.alloc();
-    let either = vec![in alloc;
+/// `('1' or 'X')`, with the places of its nodes.
+fn either(alloc: Global) -> Result<Expr, AllocError> {
+    let values = vec![in alloc;
         Expr::Character(at(10), b'1'),
         Expr::Character(at(17), b'X'),
     ]?;
-    let either = Expr::Logical(at(10), Logical::Or, Items::from_vec(either));
+    let either = Expr::Logical(at(10), Logical::Or, Items::from_vec(values));
     let items = vec![in alloc; Item::Positional(Choice::Value(either))]?;
-    let parenthesized = Expr::Parenthesized(at(9), Items::from_vec(items));
-    assert_eq!(rt;
-        fold_up(alloc, Node::Expression(&parenthesized), &LastPlace)?,
-        at(17)
-    );
+    Ok(Expr::Parenthesized(at(9), Items::from_vec(items)))
+}
+
+/// `'0' and ('1' or 'X') and not '0'`, with the places of its nodes.
+fn whole(alloc: Global) -> Result<Expr, AllocError> {
     let negated = Expr::Not(at(26), Boxed::new(alloc, Expr::Character(at(30), b'0'))?);
-    let operands = vec![in alloc; Expr::Character(at(1), b'0'), parenthesized, negated]?;
-    let whole = Expr::Logical(at(1), Logical::And, Items::from_vec(operands));
-    assert_eq!(rt;
-        fold_up(alloc, Node::Expression(&whole), &LastPlace)?,
-        at(30)
-    );
+    let operands = vec![in alloc; Expr::Character(at(1), b'0'), either(alloc)?, negated]?;
+    Ok(Expr::Logical(at(1), Logical::And, Items::from_vec(operands)))
+}
+
+/// Where the last node in an expression stands.
+fn last_place(alloc: Global, expression: &Expr) -> Result<Place, AllocError> {
+    fold_up(alloc, Node::Expression(expression), &LastPlace)
+}
+
+#[test]
+fn a_value_is_made_of_the_values_of_parts_in_order(rt: HostRuntime) -> Result<(), Fail> {
+    let either = either(rt.alloc())?;
+    assert_eq!(rt; last_place(rt.alloc(), &either)?, at(17));
+    let whole = whole(rt.alloc())?;
+    assert_eq!(rt; last_place(rt.alloc(), &whole)?, at(30));
     Ok(())
 }

@@ -8,36 +8,44 @@ use vital_base::{
     TimeUnit, Word, WriteFault, read_file, read_number, write_all,
 };
 
+/// Letters of a unit, a number of it, and how many femtoseconds that is, if it is a time.
+static TIMES: [(&[u8], u64, Option<u64>); 9] = [
+    (b"fs", 7, Some(7)),
+    (b"ps", 25, Some(25_000)),
+    (b"ns", 1, Some(1_000_000)),
+    (b"us", 3, Some(3_000_000_000)),
+    (b"ms", 1152, Some(1_152_000_000_000_000)),
+    (b"ms", 1_152_922, None),
+    (
+        b"fs",
+        1_152_921_504_606_846_976,
+        Some(1_152_921_504_606_846_976),
+    ),
+    (b"fs", 1_152_921_504_606_846_977, None),
+    (b"NS", 1, None),
+];
+
 #[test]
 fn times_have_their_femtoseconds(rt: HostRuntime) {
-    for (letters, number, time) in [
-        (b"fs", 7, Some(7)),
-        (b"ps", 25, Some(25_000)),
-        (b"ns", 1, Some(1_000_000)),
-        (b"us", 3, Some(3_000_000_000)),
-        (b"ms", 1152, Some(1_152_000_000_000_000)),
-        (b"ms", 1_152_922, None),
-        (
-            b"fs",
-            1_152_921_504_606_846_976,
-            Some(1_152_921_504_606_846_976),
-        ),
-        (b"fs", 1_152_921_504_606_846_977, None),
-        (b"NS", 1, None),
-    ] {
-        assert_eq!(rt;
-            TimeUnit::named(letters).and_then(|unit| unit.time(number)),
-            time
-        );
+    for (letters, number, time) in &TIMES {
+        let found = TimeUnit::named(letters).and_then(|unit| unit.time(*number));
+        assert_eq!(rt; found, *time);
     }
-    for (digits, number) in [
-        ("", None),
-        ("007", Some(7)),
-        ("1x", None),
-        ("9999999999999999999", Some(9_999_999_999_999_999_999)),
-        ("10000000000000000000", None),
-    ] {
-        assert_eq!(rt; read_number(digits.as_bytes()), number);
+}
+
+/// Digits, and the number that they write, if they do.
+static NUMBERS: [(&str, Option<u64>); 5] = [
+    ("", None),
+    ("007", Some(7)),
+    ("1x", None),
+    ("9999999999999999999", Some(9_999_999_999_999_999_999)),
+    ("10000000000000000000", None),
+];
+
+#[test]
+fn digits_have_their_numbers(rt: HostRuntime) {
+    for (digits, number) in &NUMBERS {
+        assert_eq!(rt; read_number(digits.as_bytes()), *number);
     }
 }
 
@@ -76,25 +84,37 @@ fn loaded(alloc: Global, piece: u32, fails: u32, named: &str) -> Result<Bytes, L
     read_file(alloc, &mut shelf, &name(alloc, named)?)
 }
 
-#[test]
-fn files_are_read_whole_or_not_at_all(rt: HostRuntime) -> Result<(), Fail> {
-    for piece in 1..4 {
-        for (fails, named, text) in [
-            (0, "a", Some("abc")),
-            (0, "e", Some("")),
-            (0, "b", None),
-            (1, "a", None),
-            (2, "a", None),
-            (3, "a", None),
-            (6, "a", Some("abc")),
-        ] {
-            match loaded(rt.alloc(), piece, fails, named) {
-                Ok(bytes) => assert!(rt; text == str::from_utf8(bytes.as_slice()).ok()),
-                Err(error) => assert!(rt; text.is_none() && error == LoadError::ReadFault),
-            }
-        }
+/// The call of a shelf that fails, the name of a file, and its text, if that is read.
+type LoadRow = (u32, &'static str, Option<&'static str>);
+
+static LOADS: [LoadRow; 7] = [
+    (0, "a", Some("abc")),
+    (0, "e", Some("")),
+    (0, "b", None),
+    (1, "a", None),
+    (2, "a", None),
+    (3, "a", None),
+    (6, "a", Some("abc")),
+];
+
+/// Whether a file is read in such pieces as its row says.
+fn is_loaded(alloc: Global, piece: u32, row: &LoadRow) -> bool
+    requires { 1 ≤ piece }
+{
+    let (fails, named, text) = *row;
+    match loaded(alloc, piece, fails, named) {
+        Ok(bytes) => text == str::from_utf8(bytes.as_slice()).ok(),
+        Err(error) => text.is_none() && error == LoadError::ReadFault,
     }
-    Ok(())
+}
+
+#[test]
+fn files_are_read_whole_or_not_at_all(rt: HostRuntime) {
+    for row in &LOADS {
+        assert!(rt; is_loaded(rt.alloc(), 1, row));
+        assert!(rt; is_loaded(rt.alloc(), 2, row));
+        assert!(rt; is_loaded(rt.alloc(), 3, row));
+    }
 }
 
 /// A shelf of one file of so many bytes.
@@ -122,20 +142,23 @@ fn a_file_past_the_greatest_length_is_too_long(rt: HostRuntime) {
     );
 }
 
+/// How many bytes a write takes, the write that fails, what comes of writing three bytes, and what is written.
+static WRITES: [(u32, u32, Result<(), WriteFault>, &str); 7] = [
+    (1, 0, Ok(()), "abc"),
+    (2, 0, Ok(()), "abc"),
+    (0, 0, Err(WriteFault), ""),
+    (1, 1, Err(WriteFault), ""),
+    (1, 2, Err(WriteFault), "a"),
+    (1, 3, Err(WriteFault), "ab"),
+    (1, 4, Ok(()), "abc"),
+];
+
 #[test]
 fn pieces_are_written_whole_or_in_part(rt: HostRuntime) -> Result<(), Fail> {
-    for (piece, fails, answer, text) in [
-        (1, 0, Ok(()), "abc"),
-        (2, 0, Ok(()), "abc"),
-        (0, 0, Err(WriteFault), ""),
-        (1, 1, Err(WriteFault), ""),
-        (1, 2, Err(WriteFault), "a"),
-        (1, 3, Err(WriteFault), "ab"),
-        (1, 4, Ok(()), "abc"),
-    ] {
-        let alloc = rt.alloc();
-        let mut sink = MemSink::new(alloc, piece, List::new(vec![in alloc; fails]?));
-        assert_eq!(rt; write_all(&mut sink, b"abc"), answer);
+    let alloc = rt.alloc();
+    for (piece, fails, answer, text) in &WRITES {
+        let mut sink = MemSink::new(alloc, *piece, List::new(vec![in alloc; *fails]?));
+        assert_eq!(rt; write_all(&mut sink, b"abc"), *answer);
         assert!(rt; sink.bytes() == text.as_bytes());
     }
     Ok(())

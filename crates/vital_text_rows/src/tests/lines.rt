@@ -6,7 +6,7 @@ use vital_report::{
     LexicalWhy, LibraryWhy, Limit, Line, Position, Printer, Reporter, StimulusWhy, UsageWhy,
 };
 
-const USAGE: [(u64, UsageWhy, &str); 5] = [
+static USAGE: [(u64, UsageWhy, &str); 5] = [
     (1, UsageWhy::Command, "refused usage 1 command\n"),
     (2, UsageWhy::Key, "refused usage 2 key\n"),
     (10, UsageWhy::Twice, "refused usage 10 twice\n"),
@@ -14,7 +14,7 @@ const USAGE: [(u64, UsageWhy, &str); 5] = [
     (4, UsageWhy::Missing, "refused usage 4 missing\n"),
 ];
 
-const STIMULUS: [(u32, StimulusWhy, &str); 7] = [
+static STIMULUS: [(u32, StimulusWhy, &str); 7] = [
     (1, StimulusWhy::Line, "refused stimulus line f.x 1\n"),
     (2, StimulusWhy::Unit, "refused stimulus unit f.x 2\n"),
     (3, StimulusWhy::Large, "refused stimulus large f.x 3\n"),
@@ -32,7 +32,7 @@ const STIMULUS: [(u32, StimulusWhy, &str); 7] = [
     ),
 ];
 
-const LEXICAL: [(LexicalWhy, &str); 2] = [
+static LEXICAL: [(LexicalWhy, &str); 2] = [
     (
         LexicalWhy::Character,
         "refused lexical f.x 12 3 character\n",
@@ -40,7 +40,7 @@ const LEXICAL: [(LexicalWhy, &str); 2] = [
     (LexicalWhy::Unclosed, "refused lexical f.x 12 3 unclosed\n"),
 ];
 
-const LIMITS: [(Limit, &str); 9] = [
+static LIMITS: [(Limit, &str); 9] = [
     (Limit::File, "refused limit file f.x 12 3\n"),
     (Limit::Tokens, "refused limit tokens f.x 12 3\n"),
     (Limit::Nesting, "refused limit nesting f.x 12 3\n"),
@@ -52,7 +52,7 @@ const LIMITS: [(Limit, &str); 9] = [
     (Limit::Delay, "refused limit delay f.x 12 3\n"),
 ];
 
-const LIBRARY: [(LibraryWhy, &str); 2] = [
+static LIBRARY: [(LibraryWhy, &str); 2] = [
     (
         LibraryWhy::Duplicate,
         "refused library duplicate f.x 12 3\n",
@@ -61,14 +61,14 @@ const LIBRARY: [(LibraryWhy, &str); 2] = [
 ];
 
 /// The level and the number of a clause, with the line for it.
-const BROKEN: [(u8, u8, &str); 3] = [
+static BROKEN: [(u8, u8, &str); 3] = [
     (0, 7, "cell nand2 vital none L0.7 f.x 12 3\n"),
     (1, 3, "cell nand2 vital level0 L1.3 f.x 12 3\n"),
     (0, 255, "cell nand2 vital none L0.255 f.x 12 3\n"),
 ];
 
 /// Times, delta numbers and values of events, each with its line.
-const EVENTS: [(u64, u64, Level, &str); 3] = [
+static EVENTS: [(u64, u64, Level, &str); 3] = [
     (0, 0, Level::U, "event 0 0 f.x U\n"),
     (25_000, 2, Level::Dash, "event 25000 2 f.x -\n"),
     (
@@ -108,12 +108,12 @@ fn lines_of_a_run_are_printed(rt: HostRuntime) -> Result<(), Fail> {
     let value = Level::One;
     assert!(rt; is_printed(alloc, &Line::Init { name, value }, "init f.x 1\n")?);
     assert!(rt; is_printed(alloc, &Line::End { time: 7 }, "end 7\n")?);
-    for (time, delta, value, text) in EVENTS {
+    for (time, delta, value, text) in &EVENTS {
         let line = Line::Event {
-            time,
-            delta,
+            time: *time,
+            delta: *delta,
             name,
-            value,
+            value: *value,
         };
         assert!(rt; is_printed(alloc, &line, text)?);
     }
@@ -153,13 +153,17 @@ fn lines_of_broken_cells_are_printed(rt: HostRuntime) -> Result<(), Fail> {
     let alloc = rt.alloc();
     let (entity, arch) = (name(alloc, b"nand2")?, name(alloc, b"vital")?);
     let file = b"f.x";
-    for (level, number, text) in BROKEN {
+    for (level, number, text) in &BROKEN {
         let at = Position {
             file,
             line: 12,
             column: 3,
         };
-        let broken = broken_cell(&entity, Some(&arch), Clause { level, number }, at);
+        let clause = Clause {
+            level: *level,
+            number: *number,
+        };
+        let broken = broken_cell(&entity, Some(&arch), clause, at);
         assert!(rt; is_printed(alloc, &broken, text)?);
     }
     let at = Position {
@@ -178,44 +182,76 @@ fn lines_of_broken_cells_are_printed(rt: HostRuntime) -> Result<(), Fail> {
 }
 
 #[test]
-fn refusals_of_words_and_stimuli_are_printed(rt: HostRuntime) -> Result<(), Fail> {
-    let alloc = rt.alloc();
-    let file = &name(alloc, b"f.x")?;
-    for (word, why, text) in USAGE {
-        assert!(rt; is_printed(alloc, &Line::RefusedUsage { word, why }, text)?);
-    }
-    for (line, why, text) in STIMULUS {
-        assert!(rt; is_printed(alloc, &Line::RefusedStimulus { why, file, line }, text)?);
+fn refusals_of_words_are_printed(rt: HostRuntime) -> Result<(), Fail> {
+    for (word, why, text) in &USAGE {
+        let line = Line::RefusedUsage {
+            word: *word,
+            why: *why,
+        };
+        assert!(rt; is_printed(rt.alloc(), &line, text)?);
     }
     Ok(())
 }
 
 #[test]
-fn refusals_at_places_are_printed(rt: HostRuntime) -> Result<(), Fail> {
-    let alloc = rt.alloc();
-    let file = b"f.x";
-    let (line, column) = (12, 3);
-    let at = Position { file, line, column };
-    for (why, text) in LEXICAL {
-        assert!(rt; is_printed(alloc, &Line::RefusedLexical { at, why }, text)?);
+fn refusals_of_stimuli_are_printed(rt: HostRuntime) -> Result<(), Fail> {
+    let file = &name(rt.alloc(), b"f.x")?;
+    for (line, why, text) in &STIMULUS {
+        let line = Line::RefusedStimulus {
+            why: *why,
+            file,
+            line: *line,
+        };
+        assert!(rt; is_printed(rt.alloc(), &line, text)?);
     }
-    for (limit, text) in LIMITS {
-        assert!(rt; is_printed(alloc, &Line::RefusedLimit { limit, at }, text)?);
+    Ok(())
+}
+
+/// Where the refusals here stand.
+static AT: Position<'static> = Position {
+    file: b"f.x",
+    line: 12,
+    column: 3,
+};
+
+#[test]
+fn lexical_refusals_are_printed(rt: HostRuntime) -> Result<(), Fail> {
+    for (why, text) in &LEXICAL {
+        let line = Line::RefusedLexical { at: AT, why: *why };
+        assert!(rt; is_printed(rt.alloc(), &line, text)?);
     }
-    for (why, text) in LIBRARY {
-        assert!(rt; is_printed(alloc, &Line::RefusedLibrary { why, at }, text)?);
+    Ok(())
+}
+
+#[test]
+fn refusals_of_limits_are_printed(rt: HostRuntime) -> Result<(), Fail> {
+    for (limit, text) in &LIMITS {
+        let line = Line::RefusedLimit {
+            limit: *limit,
+            at: AT,
+        };
+        assert!(rt; is_printed(rt.alloc(), &line, text)?);
     }
+    Ok(())
+}
+
+#[test]
+fn refusals_of_libraries_are_printed(rt: HostRuntime) -> Result<(), Fail> {
+    for (why, text) in &LIBRARY {
+        let line = Line::RefusedLibrary { why: *why, at: AT };
+        assert!(rt; is_printed(rt.alloc(), &line, text)?);
+    }
+    Ok(())
+}
+
+#[test]
+fn refusals_of_syntax_are_printed(rt: HostRuntime) -> Result<(), Fail> {
     let at = Position {
         line: 4_294_967_295,
-        ..at
+        ..AT
     };
-    assert!(rt;
-        is_printed(
-            alloc,
-            &Line::RefusedSyntax { at },
-            "refused syntax f.x 4294967295 3\n"
-        )?
-    );
+    let text = "refused syntax f.x 4294967295 3\n";
+    assert!(rt; is_printed(rt.alloc(), &Line::RefusedSyntax { at }, text)?);
     Ok(())
 }
 
