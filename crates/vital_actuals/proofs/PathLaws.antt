@@ -2,7 +2,7 @@
 use Rattle.std.proofs.Common.{◌≡◌, ℕ, List, [], ◌++◌, Option, Some, None, refl, ap, ◌∙◌}
 use Rattle.std.proofs.lemmas.List.{append-nil}
 use Rattle.vital_base.specs.declared.place.Place.{Place}
-use Rattle.vital_boolean_expr.proofs.Both.{tree_apart}
+use Rattle.vital_expr.proofs.Both.{tree_apart}
 use Rattle.vital_expr.specs.Outcomes.{Outcome, both, both_by}
 use Rattle.vital_operands.specs.declared.tree.BooleanExpr.{BooleanExpr}
 use Rattle.vital_operands.specs.declared.tree.DelayExpr.{DelayExpr}

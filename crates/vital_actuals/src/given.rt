@@ -16,13 +16,10 @@ use crate::by_name::put_fault;
 use crate::path::paths;
 use std::alloc::AllocError;
 use vital_base::Place;
-use vital_boolean_expr::boolean;
 use vital_calls::ActualForm;
-use vital_expr::{Reader, text};
-use vital_level_expr::{level, vector};
+use vital_expr::{Reader, boolean, delay, level, text, time, vector};
 use vital_nodes::{Actual as GivenActual, Expr, Item};
 use vital_operands::{BooleanExpr, TimeExpr};
-use vital_time_expr::{delay, time};
 use vital_timing::DelayType;
 use vital_walk::{HasPlace, Node, actual};
 

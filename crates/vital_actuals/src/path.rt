@@ -12,13 +12,11 @@ use crate::kind::name_for;
 use sqlite_items::Items;
 use std::alloc::AllocError;
 use vital_base::{Name, Place};
-use vital_boolean_expr::boolean;
 use vital_calls::ActualForm;
 use vital_declarations::literal_value;
-use vital_expr::{Reader, Trees};
+use vital_expr::{Reader, Trees, boolean, delay};
 use vital_nodes::{Actual, Choice, Expr, Item, Reference, Suffix};
 use vital_operands::{BooleanExpr, DelayExpr, are_positional};
-use vital_time_expr::delay;
 use vital_timing::DelayType;
 use vital_walk::{actual, formal, identifier_of, listed_items, literal_integer, positional_value};
 

@@ -1,2 +1,5 @@
 pub mod Lists
 pub mod Laws
+pub mod AloneLaws
+pub mod CallLaws
+pub mod Both

@@ -9,3 +9,4 @@ pub mod Names
 pub mod Readings
 pub mod Steps
 pub mod Seen
+pub mod Alone

@@ -1,13 +1,26 @@
-//! What an expression of Level 1 of VITAL (IEEE 1076.4) is where a type is asked of it, and where it is not of its form: the
-//! definitions for all types, what expressions are read by, and texts.
+//! Expressions in cells as typed trees: levels and vectors, conditions, times and delays.
 #![tactic(auto)]
 
+mod booleans;
+mod calls;
+mod delays;
+mod lengths;
+mod level_forms;
+mod levels;
 mod reader;
 mod side;
+mod tables;
 mod texts;
 mod trees;
+mod vector_forms;
+mod vectors;
 
+pub use booleans::boolean;
+pub use delays::{delay, time};
+pub use lengths::length_of;
+pub use levels::level;
 pub use reader::Reader;
 pub use side::Side;
 pub use texts::text;
 pub use trees::Trees;
+pub use vectors::vector;

@@ -10,15 +10,12 @@ use std::alloc::{AllocError, Global};
 use std::process::Abort;
 use std::test::Fail;
 use vital_base::{List, Place};
-use vital_boolean_expr::boolean;
-use vital_expr::{Reader, text};
-use vital_level_expr::{level, vector};
+use vital_expr::{Reader, boolean, delay, level, text, time, vector};
 use vital_library::{Library, gather};
 use vital_ll::Rules;
 use vital_names::{CellNames, CellUnit, LibraryNames, ProcessNames};
 use vital_nodes::{Arch, Conc, Expr, Process, Stmt};
 use vital_operands::{Faults, Position};
-use vital_time_expr::{delay, time};
 use vital_timing::DelayType;
 use vital_vhdl::{Role, UnitError, Units, read_units, vhdl_rules};
 

@@ -14,12 +14,12 @@ use Rattle.vital_instances.specs.Units.{Unit, unit_at}
 use Rattle.vital_connections.specs.Objects.{Object, bits_of_all}
 use Rattle.vital_structure.specs.Shapes.{Scalar, bits_of}
 use Rattle.vital_typed_cells.specs.declared.typed_cell.TypedCell.{TypedCell}
-use Rattle.vital_design_cells.specs.Cells.{is_cell, tree_of}
-use Rattle.vital_design_cells.specs.Objects.{object_of_internal, object_of_port, objects_of_cell}
-use Rattle.vital_nets.specs.declared.bit.Bit.{Bit}
-use Rattle.vital_nets.specs.Bits.{bit, bits, bits_of_instance}
-use Rattle.vital_nets.specs.Nets.{signal_number}
-use Rattle.vital_nets.specs.Objects.{objects_as, objects_at, objects_in}
+use Rattle.vital_netlist.specs.Cells.{is_cell, tree_of}
+use Rattle.vital_netlist.specs.CellObjects.{object_of_internal, object_of_port, objects_of_cell}
+use Rattle.vital_netlist.specs.declared.bit.Bit.{Bit}
+use Rattle.vital_netlist.specs.Bits.{bit, bits, bits_of_instance}
+use Rattle.vital_netlist.specs.Nets.{signal_number}
+use Rattle.vital_netlist.specs.DesignObjects.{objects_as, objects_at, objects_in}
 use Rattle.vital_netlist.specs.Wiring.{single_bits}
 use Rattle.vital_netlist.proofs.NumberLemmas.{cell-unit}
 

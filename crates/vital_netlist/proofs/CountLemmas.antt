@@ -21,16 +21,16 @@ use Rattle.vital_instances.specs.Units.{Unit, unit_at}
 use Rattle.vital_connections.specs.Objects.{Object}
 use Rattle.vital_typed_cells.specs.Bits.{names_of, number_of}
 use Rattle.vital_typed_cells.specs.declared.typed_cell.TypedCell.{TypedCell}
-use Rattle.vital_design_cells.specs.Cells.{tree_of}
-use Rattle.vital_design_cells.specs.Drivers.{driven}
-use Rattle.vital_design_cells.specs.Objects.{object_of_internal, object_of_port, objects_of_cell}
-use Rattle.vital_designs.specs.declared.design_lists.DesignDriver.{DesignDriver}
-use Rattle.vital_designs.specs.Drivers.{all_driven_bits, driven_bits, driver_count, drives, has_two_with, is_driven_twice}
-use Rattle.vital_designs.specs.Elaboration.{design_driver, driven_twice, driver_with, fault_of_drivers}
-use Rattle.vital_nets.specs.declared.bit.Bit.{Bit}
-use Rattle.vital_nets.specs.Bits.{bit, object_of}
-use Rattle.vital_nets.specs.Nets.{signal_number, signals}
-use Rattle.vital_nets.specs.Objects.{driven_as, driven_at, objects_as, objects_at, objects_in}
+use Rattle.vital_netlist.specs.Cells.{tree_of}
+use Rattle.vital_netlist.specs.CellDrivers.{driven}
+use Rattle.vital_netlist.specs.CellObjects.{object_of_internal, object_of_port, objects_of_cell}
+use Rattle.vital_netlist.specs.declared.design_lists.DesignDriver.{DesignDriver}
+use Rattle.vital_netlist.specs.DesignDrivers.{all_driven_bits, driven_bits, driver_count, drives, has_two_with, is_driven_twice}
+use Rattle.vital_netlist.specs.Elaboration.{design_driver, driven_twice, driver_with, fault_of_drivers}
+use Rattle.vital_netlist.specs.declared.bit.Bit.{Bit}
+use Rattle.vital_netlist.specs.Bits.{bit, object_of}
+use Rattle.vital_netlist.specs.Nets.{signal_number, signals}
+use Rattle.vital_netlist.specs.DesignObjects.{driven_as, driven_at, objects_as, objects_at, objects_in}
 use Rattle.vital_netlist.proofs.ListLemmas.{StandsAt, all-stand, enumerated-at, first-stands, others-stand}
 use Rattle.vital_netlist.proofs.NumberLemmas.{same-number}
 use Rattle.vital_walk.proofs.Lists.{take-one}

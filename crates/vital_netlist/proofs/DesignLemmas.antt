@@ -9,13 +9,13 @@ use Rattle.vital_nodes.specs.declared.unit.Units.{Units}
 use Rattle.vital_typed_cells.specs.declared.typed_cell.TypedCell.{TypedCell}
 use Rattle.vital_instances.specs.declared.instance.Instance.{Instance}
 use Rattle.vital_instances.specs.Designs.{AreEntered}
-use Rattle.vital_design_cells.specs.Cells.{Netlist, cells}
-use Rattle.vital_designs.specs.declared.design_lists.DesignDriver.{DesignDriver}
-use Rattle.vital_designs.specs.Designs.{Design, DesignInstance, DesignSignal}
-use Rattle.vital_designs.specs.Drivers.{all_driven_bits}
-use Rattle.vital_designs.specs.Elaboration.{TooManySignals, design_driver, design_instance, design_of, design_signal, fault_of_count, port_bits, wiring}
-use Rattle.vital_designs.specs.Soundness.{IsSoundDesign}
-use Rattle.vital_nets.specs.Nets.{place_too_many, signals}
+use Rattle.vital_netlist.specs.Cells.{Netlist, cells}
+use Rattle.vital_netlist.specs.declared.design_lists.DesignDriver.{DesignDriver}
+use Rattle.vital_netlist.specs.Designs.{Design, DesignInstance, DesignSignal}
+use Rattle.vital_netlist.specs.DesignDrivers.{all_driven_bits}
+use Rattle.vital_netlist.specs.Elaboration.{TooManySignals, design_driver, design_instance, design_of, design_signal, fault_of_count, port_bits, wiring}
+use Rattle.vital_netlist.specs.Soundness.{IsSoundDesign}
+use Rattle.vital_netlist.specs.Nets.{place_too_many, signals}
 
 abbrev design_with : List DesignInstance → List DesignSignal → List DesignDriver → List PortBit → List TypedCell → List (List ℕ) → Design
 design_with is ss ds ps cs ws = record { instances = is; signals = ss; drivers = ds; ports = ps; cells = cs; wiring = ws }

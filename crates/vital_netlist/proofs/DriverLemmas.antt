@@ -12,14 +12,14 @@ use Rattle.vital_nodes.specs.declared.unit.Units.{Units}
 use Rattle.vital_instances.specs.declared.instance.Instance.{Instance}
 use Rattle.vital_instances.specs.Units.{Unit, unit_at}
 use Rattle.vital_connections.specs.Objects.{Object}
-use Rattle.vital_design_cells.specs.Cells.{is_cell, is_lib}
-use Rattle.vital_designs.specs.declared.design_lists.DesignDriver.{DesignDriver}
-use Rattle.vital_designs.specs.Drivers.{driven_bits}
-use Rattle.vital_designs.specs.Elaboration.{default_of, design_driver, driver_with}
-use Rattle.vital_nets.specs.declared.bit.Bit.{Bit}
-use Rattle.vital_nets.specs.Bits.{bit, object_of}
-use Rattle.vital_nets.specs.Nets.{signal_number}
-use Rattle.vital_nets.specs.Objects.{driven_as, driven_at, objects_at}
+use Rattle.vital_netlist.specs.Cells.{is_cell, is_lib}
+use Rattle.vital_netlist.specs.declared.design_lists.DesignDriver.{DesignDriver}
+use Rattle.vital_netlist.specs.DesignDrivers.{driven_bits}
+use Rattle.vital_netlist.specs.Elaboration.{default_of, design_driver, driver_with}
+use Rattle.vital_netlist.specs.declared.bit.Bit.{Bit}
+use Rattle.vital_netlist.specs.Bits.{bit, object_of}
+use Rattle.vital_netlist.specs.Nets.{signal_number}
+use Rattle.vital_netlist.specs.DesignObjects.{driven_as, driven_at, objects_at}
 use Rattle.vital_netlist.specs.Wiring.{driver_at, driver_of, drivers, single_bits, wires}
 use Rattle.vital_netlist.proofs.BitLemmas.{HaveSignals, in-step}
 use Rattle.vital_walk.proofs.Lists.{turn-behind}

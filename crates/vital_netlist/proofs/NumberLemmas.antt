@@ -9,10 +9,10 @@ use Rattle.vital_nodes.specs.declared.unit.Units.{Units}
 use Rattle.vital_instances.specs.declared.instance.Instance.{Instance}
 use Rattle.vital_instances.specs.Units.{Unit, unit_at}
 use Rattle.vital_typed_cells.specs.declared.typed_cell.TypedCell.{TypedCell}
-use Rattle.vital_design_cells.specs.Cells.{cell_as, cell_entities, cell_number, cell_of_entity, cells, firsts, is_cell, is_lib, number_of_entity, tree_of}
-use Rattle.vital_design_cells.proofs.EntityLemmas.{differs, is_in}
-use Rattle.vital_design_cells.proofs.FoundLemmas.{found-cell}
-use Rattle.vital_design_cells.proofs.NumberLemmas.{position-some}
+use Rattle.vital_netlist.specs.Cells.{cell_as, cell_entities, cell_number, cell_of_entity, cells, firsts, is_cell, is_lib, number_of_entity, tree_of}
+use Rattle.vital_netlist.proofs.EntityLemmas.{differs, is_in}
+use Rattle.vital_netlist.proofs.FoundLemmas.{found-cell}
+use Rattle.vital_netlist.proofs.CellNumberLemmas.{position-some}
 
 pub same-number : (m n : ℕ) → nat_eq m n ≡ true → m ≡ n
 same-number m n is = grind (arith, nat_tests)

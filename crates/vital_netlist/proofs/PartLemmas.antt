@@ -7,13 +7,13 @@ use Rattle.std.specs.List.{filter_map}
 use Rattle.std.specs.Option.{option_and_then, option_map_or}
 use Rattle.vital_nodes.specs.declared.unit.Units.{Units}
 use Rattle.vital_instances.specs.declared.instance.Instance.{Instance}
-use Rattle.vital_design_cells.specs.Cells.{Netlist, cell_number, number_of_entity}
-use Rattle.vital_designs.specs.declared.design_lists.DesignInstance.{DesignInstance as DesignInstance'}
-use Rattle.vital_designs.specs.declared.design_lists.DesignSignal.{DesignSignal as DesignSignal'}
-use Rattle.vital_designs.specs.Designs.{DesignInstance, Site, lent_instance, lent_signal}
-use Rattle.vital_designs.specs.Elaboration.{design_instance, design_signal, site_at}
-use Rattle.vital_nets.specs.declared.bit.Bit.{Bit}
-use Rattle.vital_nets.specs.Objects.{name_at}
+use Rattle.vital_netlist.specs.Cells.{Netlist, cell_number, number_of_entity}
+use Rattle.vital_netlist.specs.declared.design_lists.DesignInstance.{DesignInstance as DesignInstance'}
+use Rattle.vital_netlist.specs.declared.design_lists.DesignSignal.{DesignSignal as DesignSignal'}
+use Rattle.vital_netlist.specs.Designs.{DesignInstance, Site, lent_instance, lent_signal}
+use Rattle.vital_netlist.specs.Elaboration.{design_instance, design_signal, site_at}
+use Rattle.vital_netlist.specs.declared.bit.Bit.{Bit}
+use Rattle.vital_netlist.specs.DesignObjects.{name_at}
 use Rattle.vital_netlist.proofs.NumberLemmas.{number-of-cell}
 use Rattle.vital_walk.proofs.Lists.{filter_map-one}
 

@@ -14,9 +14,9 @@ use Rattle.vital_instances.specs.declared.instance.Instance.{Instance}
 use Rattle.vital_connections.specs.declared.object.Object.{Object as Object'}
 use Rattle.vital_connections.specs.Objects.{Object, bits_of_all, lent, whole_bits}
 use Rattle.vital_structure.specs.Shapes.{bits_of}
-use Rattle.vital_designs.specs.Elaboration.{port_bit, port_bit_in, port_bits}
-use Rattle.vital_nets.specs.Bits.{bit, bits_of_instance, object_of}
-use Rattle.vital_nets.specs.Objects.{objects_at}
+use Rattle.vital_netlist.specs.Elaboration.{port_bit, port_bit_in, port_bits}
+use Rattle.vital_netlist.specs.Bits.{bit, bits_of_instance, object_of}
+use Rattle.vital_netlist.specs.DesignObjects.{objects_at}
 use Rattle.vital_netlist.specs.Ports.{bits_as, bits_in, first_bits}
 use Rattle.vital_netlist.proofs.ListLemmas.{StandsAt, all-stand, first-stands, others-stand}
 use Rattle.vital_walk.proofs.Lists.{put-two}

@@ -9,13 +9,13 @@ use Rattle.std.specs.List.{cons_option, enumerate_from, filter_map, flat_map}
 use Rattle.std.specs.Option.{option_map_or}
 use Rattle.vital_nodes.specs.declared.unit.Units.{Units}
 use Rattle.vital_instances.specs.declared.instance.Instance.{Instance}
-use Rattle.vital_design_cells.specs.Cells.{Netlist, is_cell, number_of_entity}
-use Rattle.vital_designs.specs.declared.design_lists.DesignDriver.{DesignDriver}
-use Rattle.vital_designs.specs.Drivers.{all_driven_bits, driven_bits}
-use Rattle.vital_designs.specs.Elaboration.{design_driver, wires_if_cell, wires_of, wiring}
-use Rattle.vital_nets.specs.Bits.{bit, bits}
-use Rattle.vital_nets.specs.Nets.{signal_number}
-use Rattle.vital_nets.specs.Objects.{driven_at, objects_at}
+use Rattle.vital_netlist.specs.Cells.{Netlist, is_cell, number_of_entity}
+use Rattle.vital_netlist.specs.declared.design_lists.DesignDriver.{DesignDriver}
+use Rattle.vital_netlist.specs.DesignDrivers.{all_driven_bits, driven_bits}
+use Rattle.vital_netlist.specs.Elaboration.{design_driver, wires_if_cell, wires_of, wiring}
+use Rattle.vital_netlist.specs.Bits.{bit, bits}
+use Rattle.vital_netlist.specs.Nets.{signal_number}
+use Rattle.vital_netlist.specs.DesignObjects.{driven_at, objects_at}
 use Rattle.vital_netlist.specs.Wiring.{driven_of, drivers, objects_of, single_bits, wires, wires_of_number}
 use Rattle.vital_netlist.proofs.BitLemmas.{HaveSignals, cell-bits, piece-signals}
 use Rattle.vital_netlist.proofs.DriverLemmas.{cell-drivers, net-drivers}

@@ -3,8 +3,8 @@ use Rattle.std.specs.Prelude.{ℕ, List, [], map, Option, Some, None}
 use Rattle.std.specs.List.{filter_map, range_with_len}
 use Rattle.vital_base.specs.declared.ports.PortBit.{PortBit}
 use Rattle.vital_connections.specs.Objects.{Object}
-use Rattle.vital_designs.specs.Elaboration.{port_bit_in}
-use Rattle.vital_nets.specs.Bits.{bit}
+use Rattle.vital_netlist.specs.Elaboration.{port_bit_in}
+use Rattle.vital_netlist.specs.Bits.{bit}
 use Rattle.vital_nodes.specs.declared.decl.Mode.{Mode}
 use Rattle.vital_structure.specs.Shapes.{bits_of}
 

@@ -14,8 +14,8 @@ use Rattle.vital_instances.specs.declared.cell_fault.CellFault.{CellFault}
 use Rattle.vital_instances.specs.declared.cell_fault.CellFault.TheVariants as cell
 use Rattle.vital_instances.specs.Faults.{Fault as InstanceFault}
 use Rattle.vital_instances.specs.Faults as of_instances
-use Rattle.vital_nets.specs.declared.signals.SignalsError.{SignalsError}
-use Rattle.vital_nets.specs.declared.signals.SignalsError.TheVariants as signals
+use Rattle.vital_netlist.specs.declared.signals.SignalsError.{SignalsError}
+use Rattle.vital_netlist.specs.declared.signals.SignalsError.TheVariants as signals
 use Rattle.vital_netlist.specs.declared.net_fault.ElabError.{ElabError as ElabError'}
 use Rattle.vital_netlist.specs.declared.net_fault.ElabError.TheVariants as error
 use Rattle.vital_netlist.specs.declared.net_fault.Mark.{Mark as Mark'}
@@ -23,8 +23,8 @@ use Rattle.vital_netlist.specs.declared.net_fault.NetFault.{NetFault as NetFault
 use Rattle.vital_netlist.specs.declared.net_fault.NetFault.TheVariants as borrowed
 use Rattle.vital_netlist.specs.declared.net_fault.NetLimit.{NetLimit}
 use Rattle.vital_netlist.specs.declared.net_fault.NetLimit.TheVariants as limit
-use Rattle.vital_designs.specs.Designs.{Design}
-use Rattle.vital_designs.specs.Elaboration.{Fault, Entering, TooManySignals, TwoDrivers}
+use Rattle.vital_netlist.specs.Designs.{Design}
+use Rattle.vital_netlist.specs.Elaboration.{Fault, Entering, TooManySignals, TwoDrivers}
 
 -- A place, and the name of the identifier that stands there, if one does.
 pub record Mark : Type 0 where

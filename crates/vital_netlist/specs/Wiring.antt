@@ -3,14 +3,14 @@ use Rattle.std.specs.Prelude.{ℕ, List, [], map, length, Option}
 use Rattle.std.specs.List.{filter_map, range_with_len, slice_get}
 use Rattle.std.specs.Option.{option_and_then, option_map, option_map_or}
 use Rattle.vital_connections.specs.Objects.{Object}
-use Rattle.vital_design_cells.specs.Cells.{Netlist}
-use Rattle.vital_designs.specs.declared.design_lists.DesignDriver.{DesignDriver}
-use Rattle.vital_designs.specs.Elaboration.{default_of}
+use Rattle.vital_netlist.specs.Cells.{Netlist}
+use Rattle.vital_netlist.specs.declared.design_lists.DesignDriver.{DesignDriver}
+use Rattle.vital_netlist.specs.Elaboration.{default_of}
 use Rattle.vital_instances.specs.declared.instance.Instance.{Instance}
-use Rattle.vital_nets.specs.declared.bit.Bit.{Bit}
-use Rattle.vital_nets.specs.Bits.{bit}
-use Rattle.vital_nets.specs.Nets.{signal_number}
-use Rattle.vital_nets.specs.Objects.{driven_at, objects_at}
+use Rattle.vital_netlist.specs.declared.bit.Bit.{Bit}
+use Rattle.vital_netlist.specs.Bits.{bit}
+use Rattle.vital_netlist.specs.Nets.{signal_number}
+use Rattle.vital_netlist.specs.DesignObjects.{driven_at, objects_at}
 use Rattle.vital_nodes.specs.declared.unit.Units.{Units}
 
 -- The bits of so many ports and signals of the instance of a number, each of which is one bit.

@@ -5,27 +5,31 @@ ghost use Rattle.std.specs.List.{filter_map};
 ghost use Rattle.std.specs.Option.{option_and_then, option_map, option_map_or};
 ghost use Rattle.vital_as_read.specs.Libraries.{IsFromText};
 ghost use Rattle.vital_connections.specs.Objects.{lent};
-ghost use Rattle.vital_designs.specs.Designs as designs;
+ghost use Rattle.vital_netlist.specs.Designs as designs;
 ghost use Rattle.vital_instances.specs.Designs.{AreEntered};
-ghost use Rattle.vital_designs.specs.Drivers as drivers';
-ghost use Rattle.vital_designs.specs.Elaboration as spec;
+ghost use Rattle.vital_netlist.specs.DesignDrivers as drivers';
+ghost use Rattle.vital_netlist.specs.Elaboration as spec;
 ghost use Rattle.vital_netlist.specs.Refusals.{IsDesigned, IsFault, IsFaultIn};
-ghost use Rattle.vital_nets.specs.Bits.{object_of};
-ghost use Rattle.vital_nets.specs.Nets.{signals as signals'};
+ghost use Rattle.vital_netlist.specs.Bits.{object_of};
+ghost use Rattle.vital_netlist.specs.Nets.{signals as signals'};
 
+use crate::bit::Bit;
+use crate::design::Design;
+use crate::design_lists::{
+    DesignDriver, DesignInstance, DesignLists, DesignSignal, Site, driver_counts,
+};
+use crate::design_parts::DesignParts;
+use crate::laws::designs_are_sound;
 use crate::net_fault::{ElabError, Mark, NetFault};
+use crate::netlist::Netlist;
 use crate::ports::ports_of;
+use crate::signals::Signals;
 use crate::wiring::Wired;
 use std::alloc::{AllocError, Global};
 use vital_connections::{Object, index_at};
-use vital_designs::{
-    Design, DesignDriver, DesignInstance, DesignLists, DesignSignal, Site, driver_counts,
-};
 use vital_instances::{Instance, Position};
 use vital_logic::Level;
-use vital_nets::{Bit, DesignParts, Netlist, Signals};
 use vital_nodes::Mode;
-use vital_sound_designs::designs_are_sound;
 
 /// The greatest number of drivers of a design. More count as want of memory.
 const MOST_DRIVERS: usize = 2_147_483_647;
@@ -191,7 +195,6 @@ fn test_drivers<'a>(
 /// units. 2^31 drivers or more count as want of memory.
 pub fn elaborate<'a>(alloc: Global, parts: &DesignParts<'a>) -> Result<Design<'a>, ElabError<'a>>
     requires read { All IsFromText parts.now.library.now }
-    requires names { parts.now.names.now ≡ parts.now.library.now }
     requires net_units { parts.now.net_units.now ≡ parts.now.library.now }
     requires cells { parts.now.cells.now ≡ record { files = parts.now.library.now; instances = parts.now.instances.now } }
     requires entered { AreEntered parts.now.library.now parts.now.instances.now }

@@ -3,10 +3,10 @@
 ghost use Rattle.std.specs.Prelude.{◌≡◌};
 ghost use Rattle.vital_netlist.specs.declared.net_fault.ElabError.TheVariants.{NoMemory};
 
-use std::alloc::{AllocError, AllocFailed};
+use crate::signals::SignalsError;
+use std::alloc::AllocError;
 use vital_base::{Breach, Place};
 use vital_limits::PassedLimit;
-use vital_nets::SignalsError;
 
 /// A place, and the name of the identifier that stands there, if one does.
 #[derive(Clone, Copy)]
@@ -75,14 +75,6 @@ impl<'a> From<AllocError> for ElabError<'a> {
     ghost from_gives = { λ _ e. e ≡ NoMemory };
 
     fn from(_error: AllocError) -> ElabError<'a> {
-        ElabError::NoMemory
-    }
-}
-
-impl<'a, T: Drop> From<AllocFailed<T>> for ElabError<'a> {
-    ghost from_gives = { λ _ e. e ≡ NoMemory };
-
-    fn from(_error: AllocFailed<T>) -> ElabError<'a> {
         ElabError::NoMemory
     }
 }

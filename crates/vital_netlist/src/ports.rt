@@ -2,17 +2,17 @@
 
 ghost use Rattle.std.specs.Prelude.{◌≡◌, ◌++◌, Some, IfOk, OnOk};
 ghost use Rattle.vital_connections.specs.Objects.{lent};
-ghost use Rattle.vital_designs.specs.Elaboration as spec;
-ghost use Rattle.vital_nets.specs.declared.bit.Bit.{Bit};
+ghost use Rattle.vital_netlist.specs.Elaboration as spec;
+ghost use Rattle.vital_netlist.specs.declared.bit.Bit.{Bit};
 ghost use Rattle.vital_netlist.specs.Ports as made;
 
+use crate::names::bit_name;
+use crate::netlist::Netlist;
 use std::alloc::{AllocError, Global};
 use vital_base::{List, Name, PortBit, Ports};
 use vital_connections::{Object, index_at, length_of};
-use vital_designs::bit_name;
 use vital_logic::{Level, to_byte};
 use vital_naturals::Natural;
-use vital_nets::Netlist;
 use vital_nodes::Mode;
 
 /// Whether a stimulus may drive a port of a mode.

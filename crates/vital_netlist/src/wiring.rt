@@ -3,22 +3,24 @@
 ghost use Rattle.std.specs.Prelude.{◌≡◌, ◌++◌, [], ◌∷◌, is_some, if◌then◌else◌, IfOk, OnOk};
 ghost use Rattle.std.specs.List.{filter_map, slice_get};
 ghost use Rattle.std.specs.Option.{option_and_then};
-ghost use Rattle.vital_design_cells.specs.Cells.{number_of_entity};
-ghost use Rattle.vital_designs.specs.Drivers as drivers';
-ghost use Rattle.vital_designs.specs.Elaboration as spec;
+ghost use Rattle.vital_netlist.specs.Cells.{number_of_entity};
+ghost use Rattle.vital_netlist.specs.DesignDrivers as drivers';
+ghost use Rattle.vital_netlist.specs.Elaboration as spec;
 ghost use Rattle.vital_instances.specs.Designs.{AreEntered};
 ghost use Rattle.vital_netlist.specs.Wiring as made;
 ghost use Rattle.vital_netlist.specs.Wiring.{driven_of, objects_of, wires_of_number};
-ghost use Rattle.vital_nets.specs.Nets.{signal_number, signals as signals'};
+ghost use Rattle.vital_netlist.specs.Nets.{signal_number, signals as signals'};
 
+use crate::bit::Bit;
+use crate::cells::Cells;
+use crate::design_lists::DesignDriver;
+use crate::laws::bits_have_signals;
+use crate::netlist::Netlist;
+use crate::signals::Signals;
 use std::alloc::{AllocError, Global};
 use vital_base::List;
-use vital_design_cells::Cells;
-use vital_designs::DesignDriver;
 use vital_logic::Level;
 use vital_naturals::Natural;
-use vital_nets::{Bit, Netlist, Signals};
-use vital_sound_designs::bits_have_signals;
 
 /// The wiring and the drivers of a design.
 #[derive(Drop)]

@@ -33,8 +33,8 @@ use Rattle.vital_timing.specs.declared.delay.DelayType.{DelayType}
 use Rattle.vital_objects.specs.Variables.{length_asked}
 use Rattle.vital_typed_declarations.specs.declared.asked_type.AskedType.{AskedType}
 use Rattle.vital_typed_declarations.specs.declared.asked_type.AskedType.TheVariants as asked
-use Rattle.vital_sound_expr.specs.Positions.{HasConstant, HasOperand, HasVariable}
-use Rattle.vital_sound_expr.specs.Scopes.{Scope}
+use Rattle.vital_sound.specs.Positions.{HasConstant, HasOperand, HasVariable}
+use Rattle.vital_sound.specs.ExprScopes.{Scope}
 use Rattle.vital_sound.specs.Named.{has_element, is_delay, is_input_port, is_internal, is_level, is_scalar, is_time, is_vector}
 use Rattle.vital_sound.specs.Scopes.{Visible, scope_of}
 use Rattle.vital_sound.proofs.CellTables.{TableValue, tables-back, tables-front}

@@ -22,8 +22,8 @@ use Rattle.vital_operands.specs.Positions.{meaning_at}
 use Rattle.vital_typed_statements.specs.declared.table_use.TableUse.{TableUse}
 use Rattle.vital_typed_statements.specs.Uses.{truth_use_at, truth_use_of, truth_use_with, used_meaning}
 use Rattle.vital_walk.specs.Names.{identifier_of}
-use Rattle.vital_sound_expr.specs.Calls.{HasActuals, HasTable, HasTableAt, HasTables}
-use Rattle.vital_sound_expr.specs.Scopes.{Scope}
+use Rattle.vital_sound.specs.Calls.{HasActuals, HasTable, HasTableAt, HasTables}
+use Rattle.vital_sound.specs.ExprScopes.{Scope}
 use Rattle.vital_sound.proofs.Closed.{Within, closed}
 use Rattle.vital_sound.proofs.Found.{weaker}
 use Rattle.vital_sound.proofs.ItemNodes.{TableWithin, call-within, identifier-within}

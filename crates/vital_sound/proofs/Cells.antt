@@ -23,10 +23,10 @@ use Rattle.vital_typed_cells.specs.Typed.{typed, typed_with}
 use Rattle.vital_typed_cells.specs.Wires.{wires}
 use Rattle.vital_uses.specs.Nodes.{sited_interface}
 use Rattle.vital_uses.specs.Statements.{processes}
-use Rattle.vital_sound_expr.specs.Times.{are_short}
-use Rattle.vital_sound_names.specs.KeptStates.{kept}
-use Rattle.vital_sound_names.specs.SpelledNames.{is_port_name, spelled}
-use Rattle.vital_sound_names.specs.TreeNames.{names_of_cell, names_of_process}
+use Rattle.vital_sound.specs.Times.{are_short}
+use Rattle.vital_sound.specs.KeptStates.{kept}
+use Rattle.vital_sound.specs.SpelledNames.{is_port_name, spelled}
+use Rattle.vital_sound.specs.TreeNames.{names_of_cell, names_of_process}
 use Rattle.vital_as_read.specs.AsRead.{IsAsRead, StandsBefore}
 use Rattle.vital_sound.specs.Named.{is_input_port, is_internal}
 use Rattle.vital_sound.specs.Sound.{IsSound, IsSoundGeneric, IsSoundProcess, is_formed_port, is_sound_wire, names_in_interface, names_in_process}

@@ -4,8 +4,8 @@ use Rattle.std.specs.List.{AllByRecursion, flat_map}
 use Rattle.vital_nodes.specs.Nodes.{Node, parts_of}
 use Rattle.vital_nodes.specs.Walk.{nodes_of, nodes_of_all}
 use Rattle.vital_nodes.proofs.Walking.{nodes-law}
-use Rattle.vital_sound_expr.proofs.Nodes.{all-nodes, all-within}
-use Rattle.vital_sound_expr.proofs.Upwards.{upwards}
+use Rattle.vital_sound.proofs.Nodes.{all-nodes, all-within}
+use Rattle.vital_sound.proofs.Upwards.{upwards}
 use Rattle.vital_sound.proofs.Found.{both-lists, each}
 
 abbrev pub Within : (Node → Type 0) → Node → Type 0

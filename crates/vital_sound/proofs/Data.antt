@@ -28,8 +28,8 @@ use Rattle.vital_objects.specs.Ports.{port, ports}
 use Rattle.vital_objects.specs.Variables.{variables}
 use Rattle.vital_operands.specs.Positions.{InStatement, Nothing, standing_of}
 use Rattle.vital_uses.specs.Sited.{Sited}
-use Rattle.vital_sound_actuals.specs.ActualPositions.{HasData, HasNamed}
-use Rattle.vital_sound_actuals.specs.ActualScopes.{ActualScope}
+use Rattle.vital_sound.specs.ActualPositions.{HasData, HasNamed}
+use Rattle.vital_sound.specs.ActualScopes.{ActualScope}
 use Rattle.vital_as_read.specs.AsRead.{AreTogether}
 use Rattle.vital_sound.specs.Named.{is_glitch_data, is_output_port, is_period_data, is_timing_data, is_x01, variable_is}
 use Rattle.vital_sound.proofs.Bridge.{OwnObject, kind-is}

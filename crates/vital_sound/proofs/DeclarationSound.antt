@@ -41,10 +41,10 @@ use Rattle.vital_uses.specs.Nodes.{sited_declarations}
 use Rattle.vital_typed_statements.specs.Uses.{truth_use_at}
 use Rattle.vital_uses.specs.Parts.{asked_of_decl, asked_of_subtype, value_of_decl}
 use Rattle.vital_uses.specs.Sited.{Sited}
-use Rattle.vital_sound_expr.specs.Trees.{is_sound_level, is_sound_vector}
-use Rattle.vital_sound_expr.proofs.Outcomes.{if-and-then}
-use Rattle.vital_sound_values.specs.SoundValues.{HasNamesIn, HasTablesIn, ValueScope, is_sound_value}
-use Rattle.vital_sound_values.proofs.Values.{SoundValue, value-sound}
+use Rattle.vital_sound.specs.Trees.{is_sound_level, is_sound_vector}
+use Rattle.vital_sound.proofs.Outcomes.{if-and-then}
+use Rattle.vital_sound.specs.SoundValues.{HasNamesIn, HasTablesIn, ValueScope, is_sound_value}
+use Rattle.vital_sound.proofs.SoundValues.{SoundValue, value-sound}
 use Rattle.vital_as_read.specs.AsRead.{IsAsRead}
 use Rattle.vital_sound.specs.SoundDeclarations.{is_sound_constant, is_sound_kind}
 use Rattle.vital_sound.proofs.Facts.{Meets}

@@ -30,8 +30,8 @@ use Rattle.vital_uses.specs.Nodes.{sited_interface}
 use Rattle.vital_uses.specs.Parts.{asked_of_generic, asked_of_subtype}
 use Rattle.vital_uses.specs.Sited.{Sited, beside}
 use Rattle.vital_walk.specs.Names.{identifier_of}
-use Rattle.vital_sound_expr.specs.Positions.{HasConstant, HasNameAt}
-use Rattle.vital_sound_values.specs.SoundValues.{HasBooleanAt, HasNamesIn, ValueScope, read_default}
+use Rattle.vital_sound.specs.Positions.{HasConstant, HasNameAt}
+use Rattle.vital_sound.specs.SoundValues.{HasBooleanAt, HasNamesIn, ValueScope, read_default}
 use Rattle.vital_as_read.specs.AsRead.{AreConstantsTogether, AreInterfaceTogether}
 use Rattle.vital_sound.proofs.AsRead.{IsInterfaceTogether, alike-beside}
 use Rattle.vital_sound.specs.Named.{is_package_truth}

@@ -27,7 +27,7 @@ use Rattle.vital_uses.specs.Sited.{Sited}
 use Rattle.vital_walk.specs.Objects.{is_constant}
 use Rattle.vital_walk.specs.Statements.{all_concurrent}
 use Rattle.vital_as_read.specs.AsRead.{IsAsRead, StandsBefore, all_declared, declared_by_statement}
-use Rattle.vital_sound_expr.proofs.Tests.{number-is}
+use Rattle.vital_sound.proofs.ExprTests.{number-is}
 use Rattle.vital_sound.proofs.Aliases.{not-before}
 use Rattle.vital_sound.proofs.CellTables.{IsFoundAt}
 use Rattle.vital_sound.proofs.Found.{weaker}

@@ -39,12 +39,12 @@ use Rattle.vital_typed_declarations.specs.Asked.{of_generic, of_generic_type}
 use Rattle.vital_typed_declarations.specs.Declarations.{generic_value, in_interface}
 use Rattle.vital_uses.specs.Nodes.{sited_interface}
 use Rattle.vital_uses.specs.Sited.{Sited}
-use Rattle.vital_sound_expr.specs.Times.{are_short}
-use Rattle.vital_sound_expr.specs.Trees.{is_sound_delay}
-use Rattle.vital_sound_expr.proofs.Anything.{any-tables}
-use Rattle.vital_sound_values.specs.SoundValues.{HasNamesIn, HasTablesIn, ValueScope, is_sound_value, read_default}
-use Rattle.vital_sound_values.proofs.Words.{generic-sound}
-use Rattle.vital_sound_names.specs.TypedDefaults.{HasTypedDefault}
+use Rattle.vital_sound.specs.Times.{are_short}
+use Rattle.vital_sound.specs.Trees.{is_sound_delay}
+use Rattle.vital_sound.proofs.Anything.{any-tables}
+use Rattle.vital_sound.specs.SoundValues.{HasNamesIn, HasTablesIn, ValueScope, is_sound_value, read_default}
+use Rattle.vital_sound.proofs.Words.{generic-sound}
+use Rattle.vital_sound.specs.TypedDefaults.{HasTypedDefault}
 use Rattle.vital_as_read.specs.AsRead.{AreConstantsTogether}
 use Rattle.vital_sound.specs.Named.{is_package_delay, is_package_truth, is_plain_generic, is_timing_generic}
 use Rattle.vital_sound.proofs.Defaults.{IsInterfaceSite, IsOfPackages, ReadFree, default-names, interface-sites}

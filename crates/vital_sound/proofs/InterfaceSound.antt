@@ -34,12 +34,12 @@ use Rattle.vital_typed_statements.specs.Uses.{truth_use_at}
 use Rattle.vital_uses.specs.Nodes.{sited_interface}
 use Rattle.vital_uses.specs.Parts.{asked_of_port, asked_of_subtype}
 use Rattle.vital_uses.specs.Sited.{Sited}
-use Rattle.vital_sound_expr.specs.Scopes.{Scope}
-use Rattle.vital_sound_expr.specs.Trees.{is_sound_level}
-use Rattle.vital_sound_expr.proofs.Outcomes.{if-and-then}
-use Rattle.vital_sound_values.specs.SoundValues.{HasNamesIn, HasTablesIn, ValueScope, is_sound_value, read_default}
-use Rattle.vital_sound_values.proofs.Values.{SoundValue, value-sound}
-use Rattle.vital_sound_values.proofs.Words.{generic-sound}
+use Rattle.vital_sound.specs.ExprScopes.{Scope}
+use Rattle.vital_sound.specs.Trees.{is_sound_level}
+use Rattle.vital_sound.proofs.Outcomes.{if-and-then}
+use Rattle.vital_sound.specs.SoundValues.{HasNamesIn, HasTablesIn, ValueScope, is_sound_value, read_default}
+use Rattle.vital_sound.proofs.SoundValues.{SoundValue, value-sound}
+use Rattle.vital_sound.proofs.Words.{generic-sound}
 use Rattle.vital_as_read.specs.AsRead.{AreConstantsTogether, IsAsRead}
 use Rattle.vital_sound.specs.Named.{is_package_truth}
 use Rattle.vital_sound.specs.Scopes.{of_packages, scope_of}

@@ -18,8 +18,8 @@ use Rattle.vital_operands.specs.Calls.{TableActuals, function_named, in_order, i
 use Rattle.vital_operands.specs.Positions.{Position}
 use Rattle.vital_walk.specs.Items.{actual, actual_in, items_in_expr, listed_items, positional_in, positional_value, value_in_actual, value_in_choice}
 use Rattle.vital_walk.specs.Names.{identifier_in, identifier_of, if_plain, items_in}
-use Rattle.vital_sound_expr.proofs.Nodes.{all-nodes, all-within}
-use Rattle.vital_sound_expr.proofs.Outcomes.{if-and-then}
+use Rattle.vital_sound.proofs.Nodes.{all-nodes, all-within}
+use Rattle.vital_sound.proofs.Outcomes.{if-and-then}
 use Rattle.vital_sound.proofs.Closed.{Within}
 
 -- ---- parts

@@ -42,7 +42,7 @@ use Rattle.vital_uses.specs.Parts.{asked_of_decl, asked_of_generic, asked_of_por
 use Rattle.vital_uses.specs.Sited.{Sited, SitedNode, own_site, seen_from, seen_from_themselves}
 use Rattle.vital_uses.specs.Statements.{processes, statements}
 use Rattle.vital_walk.specs.Objects.{is_constant}
-use Rattle.vital_sound_expr.proofs.Nodes.{all-within}
+use Rattle.vital_sound.proofs.Nodes.{all-within}
 use Rattle.vital_as_read.specs.AsRead.{AreConstantsTogether}
 use Rattle.vital_sound.proofs.Aliases.{AliasAt}
 use Rattle.vital_sound.proofs.Found.{found, weaker}

@@ -29,9 +29,9 @@ use Rattle.vital_nodes.specs.declared.identifier.Identifier.{Identifier}
 use Rattle.vital_nodes.specs.declared.stmt.Process.{Process}
 use Rattle.vital_operands.specs.declared.tree.ConstantName.TheVariants as constant
 use Rattle.vital_operands.specs.Positions.{Position, InStatement, InValue, InInterface, Standing, Operand, Constant, Word, Nothing, changes, standing_of}
-use Rattle.vital_sound_expr.specs.Positions.{HasConstant, HasIdentifier, HasOperand, HasStanding, HasTarget}
-use Rattle.vital_sound_expr.specs.Scopes.{Scope}
-use Rattle.vital_sound_expr.proofs.Names.{offset-inside}
+use Rattle.vital_sound.specs.Positions.{HasConstant, HasIdentifier, HasOperand, HasStanding, HasTarget}
+use Rattle.vital_sound.specs.ExprScopes.{Scope}
+use Rattle.vital_sound.proofs.ExprNames.{offset-inside}
 use Rattle.vital_sound.proofs.Found.{all-mapped, both-lists, each, weaker}
 use Rattle.vital_sound.proofs.Seen.{Before, Declares, IfPackaged, Means, interface-has, meaning-has, site_at, site_of_interface}
 

@@ -17,8 +17,8 @@ use Rattle.vital_nodes.specs.declared.unit.Units.{Units}
 use Rattle.vital_nodes.specs.Nodes.{Node, Declaration, Interface, Concurrent, Sequential, Expression, Item, Name}
 use Rattle.vital_operands.specs.declared.tree.ConstantName.TheVariants as constant
 use Rattle.vital_operands.specs.Positions.{InPackage, Nothing, standing_of}
-use Rattle.vital_sound_expr.specs.Positions.{HasConstant, HasIdentifier, HasNameAt, HasStanding}
-use Rattle.vital_sound_expr.specs.Scopes.{Scope}
+use Rattle.vital_sound.specs.Positions.{HasConstant, HasIdentifier, HasNameAt, HasStanding}
+use Rattle.vital_sound.specs.ExprScopes.{Scope}
 use Rattle.vital_sound.proofs.Found.{found}
 use Rattle.vital_sound.proofs.Lookups.{IsAt, all-numbered, from-zero, taken-front}
 use Rattle.vital_sound.proofs.Rows.{MeaningGood, SymbolAt, SymbolGood}

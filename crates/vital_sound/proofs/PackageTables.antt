@@ -28,7 +28,7 @@ use Rattle.vital_typed_statements.specs.declared.table_use.TableUse.{TableUse}
 use Rattle.vital_typed_statements.specs.declared.table_use.UsedTable.TheVariants as used
 use Rattle.vital_typed_statements.specs.Uses.{truth_use_at, truth_use_with, use_of}
 use Rattle.vital_walk.specs.Objects.{is_constant}
-use Rattle.vital_sound_expr.specs.Calls.{HasTable, HasTables}
+use Rattle.vital_sound.specs.Calls.{HasTable, HasTables}
 use Rattle.vital_sound.specs.SoundDeclarations.{names_in_packages}
 use Rattle.vital_sound.proofs.CallTables.{HasMeant, TablesMeant, expression-tables}
 use Rattle.vital_sound.proofs.Found.{weaker}

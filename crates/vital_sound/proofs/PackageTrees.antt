@@ -31,13 +31,13 @@ use Rattle.vital_typed_declarations.specs.declared.value.TypedValue.{TypedValue}
 use Rattle.vital_typed_declarations.specs.declared.value.TypedValue.TheVariants as value
 use Rattle.vital_typed_declarations.specs.Declarations.{object_value}
 use Rattle.vital_walk.specs.Objects.{is_constant}
-use Rattle.vital_sound_expr.specs.Positions.{HasNameAt}
-use Rattle.vital_sound_expr.specs.Scopes.{Scope}
-use Rattle.vital_sound_expr.specs.Times.{are_short}
-use Rattle.vital_sound_expr.proofs.Anything.{any-tables}
-use Rattle.vital_sound_expr.proofs.Outcomes.{if-and-then}
-use Rattle.vital_sound_values.specs.SoundValues.{HasBooleanAt, HasNamesIn, HasTablesIn, ValueScope, is_sound_value}
-use Rattle.vital_sound_values.proofs.Values.{SoundValue, value-sound}
+use Rattle.vital_sound.specs.Positions.{HasNameAt}
+use Rattle.vital_sound.specs.ExprScopes.{Scope}
+use Rattle.vital_sound.specs.Times.{are_short}
+use Rattle.vital_sound.proofs.Anything.{any-tables}
+use Rattle.vital_sound.proofs.Outcomes.{if-and-then}
+use Rattle.vital_sound.specs.SoundValues.{HasBooleanAt, HasNamesIn, HasTablesIn, ValueScope, is_sound_value}
+use Rattle.vital_sound.proofs.SoundValues.{SoundValue, value-sound}
 use Rattle.vital_sound.specs.Named.{is_package_delay, is_package_time}
 use Rattle.vital_sound.specs.SoundDeclarations.{is_sound_package, names_in_packages}
 use Rattle.vital_sound.proofs.Found.{each, weaker}

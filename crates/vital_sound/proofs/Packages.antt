@@ -41,10 +41,10 @@ use Rattle.vital_typed_declarations.specs.Declarations.{object_value}
 use Rattle.vital_typed_declarations.specs.Values.{value_if_given}
 use Rattle.vital_uses.specs.Parts.{asked_of_subtype}
 use Rattle.vital_walk.specs.Objects.{is_constant, is_constant_class}
-use Rattle.vital_sound_expr.specs.Positions.{HasNameAt}
-use Rattle.vital_sound_expr.proofs.Anything.{any-tables}
-use Rattle.vital_sound_expr.proofs.Nodes.{node-sound}
-use Rattle.vital_sound_expr.proofs.Readings.{SoundReading}
+use Rattle.vital_sound.specs.Positions.{HasNameAt}
+use Rattle.vital_sound.proofs.Anything.{any-tables}
+use Rattle.vital_sound.proofs.Nodes.{node-sound}
+use Rattle.vital_sound.proofs.Readings.{SoundReading}
 use Rattle.vital_as_read.specs.AsRead.{AreConstantsTogether}
 use Rattle.vital_sound.proofs.AsRead.{IsConstantTogether, alike-beside}
 use Rattle.vital_sound.proofs.Found.{weaker}

@@ -20,11 +20,11 @@ use Rattle.vital_typed_statements.specs.Statements.{context}
 use Rattle.vital_sections.specs.Sections.{sections}
 use Rattle.vital_uses.specs.Statements.{processes}
 use Rattle.vital_walk.specs.Statements.{all_sequential, sequential}
-use Rattle.vital_sound_actuals.specs.ActualPositions.{IsActualScopeOf}
-use Rattle.vital_sound_actuals.specs.ActualScopes.{ActualScope}
-use Rattle.vital_sound_expr.specs.Positions.{HasNameAt}
-use Rattle.vital_sound_expr.specs.Calls.{HasTableAt}
-use Rattle.vital_sound_expr.proofs.Nodes.{IsKnown, IsKnownAt}
+use Rattle.vital_sound.specs.ActualPositions.{IsActualScopeOf}
+use Rattle.vital_sound.specs.ActualScopes.{ActualScope}
+use Rattle.vital_sound.specs.Positions.{HasNameAt}
+use Rattle.vital_sound.specs.Calls.{HasTableAt}
+use Rattle.vital_sound.proofs.Nodes.{IsKnown, IsKnownAt}
 use Rattle.vital_as_read.specs.AsRead.{IsAsRead, IsProcessAsRead}
 use Rattle.vital_sound.specs.Scopes.{actuals_in, scope_of, state_tables_in}
 use Rattle.vital_sound.specs.SoundSections.{are_sound_sections}

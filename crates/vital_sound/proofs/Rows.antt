@@ -28,8 +28,8 @@ use Rattle.vital_operands.specs.Named.{is_table_type}
 use Rattle.vital_tables.specs.Tables.{rows_of, rows_of_items, symbol_at, symbol_in, symbol_meant, symbol_named, symbol_of_constant, symbol_of_declared, symbols_of_items}
 use Rattle.vital_walk.specs.Items.{listed_items, positional_value}
 use Rattle.vital_walk.specs.Names.{identifier_of}
-use Rattle.vital_sound_expr.proofs.Outcomes.{if-and-then}
-use Rattle.vital_sound_expr.proofs.Tests.{number-is}
+use Rattle.vital_sound.proofs.Outcomes.{if-and-then}
+use Rattle.vital_sound.proofs.ExprTests.{number-is}
 use Rattle.vital_sound.proofs.Closed.{Within}
 use Rattle.vital_sound.proofs.Found.{weaker}
 use Rattle.vital_sound.proofs.ItemNodes.{ItemsWithin, identifier-within, listed-within, positional-within}

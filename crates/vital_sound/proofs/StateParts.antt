@@ -8,9 +8,9 @@ use Rattle.vital_sections.specs.Given.{GivenCall, count_given, inputs_given, kep
 use Rattle.vital_sections.specs.StateTables.{state_table, state_table_with, vector_in, with_inputs, with_kept, with_result, with_states}
 use Rattle.vital_typed_statements.specs.StateTables.{count, has_wrong_inputs, inputs, result, results_of, states_of}
 use Rattle.vital_typed_statements.specs.Uses.{parting, parting_by, parting_for}
-use Rattle.vital_sound_sections.specs.SoundTables.{GoTogether, IsSoundStateTable}
-use Rattle.vital_sound_sections.proofs.StateTables.{all-typed, columns-law, few-enough, if-is, if-made, inputs-law, is-there, result-law, right-inputs, states-law}
-use Rattle.vital_sound_expr.specs.Scopes.{Scope}
+use Rattle.vital_sound.specs.SoundTables.{GoTogether, IsSoundStateTable}
+use Rattle.vital_sound.proofs.StateTables.{all-typed, columns-law, few-enough, if-is, if-made, inputs-law, is-there, result-law, right-inputs, states-law}
+use Rattle.vital_sound.specs.ExprScopes.{Scope}
 
 -- What is given for the formals is what the call is read as.
 pub record IsReadAs (k : GivenCall) (t : StateTable) : Type 0 where

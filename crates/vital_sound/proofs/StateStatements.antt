@@ -35,12 +35,12 @@ use Rattle.vital_typed_statements.specs.StateTables.{results_of}
 use Rattle.vital_declarations.specs.declared.declared_type.TableType.TheVariants as table
 use Rattle.vital_typed_statements.specs.Statements.{call_meant, call_of_procedure, context, statement_in}
 use Rattle.vital_typed_statements.specs.Uses.{parting, state_table as used_in, statement_uses, use_of, uses_meant, uses_of_procedure}
-use Rattle.vital_sound_actuals.specs.ActualPositions.{IsActualScopeOf}
-use Rattle.vital_sound_actuals.specs.ActualScopes.{ActualScope}
-use Rattle.vital_sound_actuals.specs.SoundActuals.{is_sound_target}
-use Rattle.vital_sound_expr.specs.Trees.{is_sound_vector}
-use Rattle.vital_sound_sections.specs.SoundTables.{GoTogether, IsSoundStateTable, columns_given}
-use Rattle.vital_sound_sections.proofs.StateTables.{all-typed, state-table-sound}
+use Rattle.vital_sound.specs.ActualPositions.{IsActualScopeOf}
+use Rattle.vital_sound.specs.ActualScopes.{ActualScope}
+use Rattle.vital_sound.specs.SoundActuals.{is_sound_target}
+use Rattle.vital_sound.specs.Trees.{is_sound_vector}
+use Rattle.vital_sound.specs.SoundTables.{GoTogether, IsSoundStateTable, columns_given}
+use Rattle.vital_sound.proofs.StateTables.{all-typed, state-table-sound}
 use Rattle.vital_sound.specs.Scopes.{Visible, state_tables_in}
 use Rattle.vital_sound.specs.SoundSections.{is_sound_state_table}
 use Rattle.vital_sound.proofs.BehindNames.{IsBehindAll, NameBehind, item-vector}

@@ -16,7 +16,7 @@ use Rattle.vital_typed_cells.specs.Typed.{typed, typed_with}
 use Rattle.vital_typed_statements.specs.Statements.{context}
 use Rattle.vital_uses.specs.Sited.{own_site}
 use Rattle.vital_walk.specs.Statements.{all_sequential}
-use Rattle.vital_sound_expr.specs.Calls.{HasTableAt}
+use Rattle.vital_sound.specs.Calls.{HasTableAt}
 use Rattle.vital_as_read.specs.AsRead.{IsAsRead}
 use Rattle.vital_sound.specs.Scopes.{scope_of}
 use Rattle.vital_sound.proofs.Bridge.{HasValue, value-back}

@@ -31,16 +31,16 @@ use Rattle.vital_typed_statements.specs.declared.statement.TypedStatement.TheVar
 use Rattle.vital_typed_statements.specs.Statements.{assignment, context}
 use Rattle.vital_walk.specs.Names.{items_in}
 use Rattle.vital_walk.specs.Statements.{all_sequential, sequential}
-use Rattle.vital_sound_actuals.specs.ActualPositions.{IsActualScopeOf}
-use Rattle.vital_sound_actuals.specs.ActualScopes.{ActualScope}
-use Rattle.vital_sound_expr.specs.Scopes.{Scope}
-use Rattle.vital_sound_expr.proofs.Nodes.{IsKnown, IsKnownAt, known-here, known-parts, known-sound}
-use Rattle.vital_sound_expr.proofs.Outcomes.{if-and-then}
-use Rattle.vital_sound_sections.specs.SoundStatements.{is_sound_check, is_sound_path_delay}
-use Rattle.vital_sound_sections.proofs.Checks.{SoundCheck, check-sound}
-use Rattle.vital_sound_sections.proofs.Given.{IsCallIn}
-use Rattle.vital_sound_sections.proofs.PathDelays.{SoundPathDelay, path-delay-sound}
-use Rattle.vital_sound_statements.proofs.Assignments.{SoundAssignment, assignment-known}
+use Rattle.vital_sound.specs.ActualPositions.{IsActualScopeOf}
+use Rattle.vital_sound.specs.ActualScopes.{ActualScope}
+use Rattle.vital_sound.specs.ExprScopes.{Scope}
+use Rattle.vital_sound.proofs.Nodes.{IsKnown, IsKnownAt, known-here, known-parts, known-sound}
+use Rattle.vital_sound.proofs.Outcomes.{if-and-then}
+use Rattle.vital_sound.specs.SoundStatements.{is_sound_check, is_sound_path_delay}
+use Rattle.vital_sound.proofs.Checks.{SoundCheck, check-sound}
+use Rattle.vital_sound.proofs.SectionGiven.{IsCallIn}
+use Rattle.vital_sound.proofs.PathDelays.{SoundPathDelay, path-delay-sound}
+use Rattle.vital_sound.proofs.Assignments.{SoundAssignment, assignment-known}
 use Rattle.vital_sound.specs.Scopes.{StateTableTest}
 use Rattle.vital_sound.specs.SoundSections.{are_sound_sections, is_sound_functional}
 use Rattle.vital_sound.proofs.Closed.{closed}

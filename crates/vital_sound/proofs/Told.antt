@@ -1,5 +1,5 @@
 -- What is told of the outcomes of expressions.
-use Rattle.vital_sound_expr.proofs.ToldNodes.{expression-told}
+use Rattle.vital_sound.proofs.ToldNodes.{expression-told}
 use Rattle.vital_sound.proofs.Values.{AllTold}
 
 pub all-told : AllTold

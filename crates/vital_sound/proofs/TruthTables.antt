@@ -26,8 +26,8 @@ use Rattle.vital_typed_cells.specs.Packages.{sound_values}
 use Rattle.vital_typed_statements.specs.declared.table_use.UsedTable.TheVariants as used
 use Rattle.vital_typed_statements.specs.Uses.{truth_use_at, truth_use_with, used_meaning}
 use Rattle.vital_walk.specs.Objects.{is_constant}
-use Rattle.vital_sound_expr.specs.Calls.{HasTable, HasTableAt}
-use Rattle.vital_sound_values.specs.SoundValues.{HasTablesIn}
+use Rattle.vital_sound.specs.Calls.{HasTable, HasTableAt}
+use Rattle.vital_sound.specs.SoundValues.{HasTablesIn}
 use Rattle.vital_sound.specs.Fitting.{is_table as fits_table}
 use Rattle.vital_sound.specs.Scopes.{Visible, scope_of}
 use Rattle.vital_sound.proofs.CallTables.{TablesMeant, expression-tables, tables-there}

@@ -22,8 +22,8 @@ use Rattle.vital_objects.specs.Signals.{declarations}
 use Rattle.vital_operands.specs.Positions.{InValue, Position}
 use Rattle.vital_timing.specs.declared.delay.DelayType.{DelayType}
 use Rattle.vital_typed_declarations.specs.Declarations.{in_value}
-use Rattle.vital_sound_expr.specs.Positions.{HasNameAt}
-use Rattle.vital_sound_values.specs.SoundValues.{HasBooleanAt, HasNamesIn, ValueScope}
+use Rattle.vital_sound.specs.Positions.{HasNameAt}
+use Rattle.vital_sound.specs.SoundValues.{HasBooleanAt, HasNamesIn, ValueScope}
 use Rattle.vital_as_read.specs.AsRead.{IsAsRead}
 use Rattle.vital_sound.specs.Named.{is_package_truth}
 use Rattle.vital_sound.specs.Scopes.{Visible, in_values, scope_of}

@@ -21,7 +21,7 @@ use Rattle.vital_typed_declarations.specs.declared.asked_type.AskedType.{AskedTy
 use Rattle.vital_typed_declarations.specs.declared.asked_type.AskedType.TheVariants as asked
 use Rattle.vital_typed_declarations.specs.declared.value.TypedValue.TheVariants as value
 use Rattle.vital_typed_declarations.specs.Asked.{of_constant}
-use Rattle.vital_sound_expr.specs.Told.{IsTold}
+use Rattle.vital_sound.specs.Told.{IsTold}
 use Rattle.vital_sound.specs.Named.{is_delay, is_level, is_time}
 use Rattle.vital_sound.proofs.Constants.{GivesValue, IsConstantOf}
 

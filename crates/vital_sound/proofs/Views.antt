@@ -35,7 +35,7 @@ use Rattle.vital_timing.specs.declared.delay.DelayType.{DelayType}
 use Rattle.vital_uses.specs.Nodes.{sited_declarations}
 use Rattle.vital_uses.specs.Sited.{own_site}
 use Rattle.vital_uses.specs.Statements.{processes}
-use Rattle.vital_sound_expr.specs.Positions.{HasIdentifier, HasNameAt}
+use Rattle.vital_sound.specs.Positions.{HasIdentifier, HasNameAt}
 use Rattle.vital_as_read.specs.AsRead.{AreConstantsTogether, AreTogether, IsAsRead, StandsBefore, common_of}
 use Rattle.vital_sound.proofs.AsRead.{alike-beside, processes-behind, processes-together}
 use Rattle.vital_sound.specs.Named.{is_input_port, is_internal, is_package_delay, is_package_level, is_package_time}

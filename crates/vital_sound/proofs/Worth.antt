@@ -35,9 +35,9 @@ use Rattle.vital_typed_declarations.specs.Asked.{of_object, of_object_class}
 use Rattle.vital_typed_declarations.specs.Declarations.{object_value}
 use Rattle.vital_typed_declarations.specs.Values.{is_boolean_type, value_as, value_if_given}
 use Rattle.vital_walk.specs.Objects.{is_constant}
-use Rattle.vital_sound_expr.specs.Scopes.{Scope}
-use Rattle.vital_sound_expr.proofs.Readings.{SoundDelay, SoundReading, SoundTime}
-use Rattle.vital_sound_expr.proofs.ToldNodes.{expression-told}
+use Rattle.vital_sound.specs.ExprScopes.{Scope}
+use Rattle.vital_sound.proofs.Readings.{SoundDelay, SoundReading, SoundTime}
+use Rattle.vital_sound.proofs.ToldNodes.{expression-told}
 use Rattle.vital_sound.specs.Named.{is_package_delay, is_package_level, is_package_time, is_package_truth}
 use Rattle.vital_sound.specs.Scopes.{of_packages, scope_of}
 use Rattle.vital_sound.proofs.Values.{AsksDelay, AsksFor, delay-asked, level-asked, time-asked}

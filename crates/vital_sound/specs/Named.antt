@@ -22,7 +22,7 @@ use Rattle.vital_objects.specs.declared.variable.Variable.{Variable}
 use Rattle.vital_objects.specs.declared.variable.VariableKind.{VariableKind}
 use Rattle.vital_objects.specs.declared.variable.VariableKind.TheVariants as kind
 use Rattle.vital_objects.specs.PackageValues.{value_at}
-use Rattle.vital_sound_expr.specs.Times.{are_short, is_short}
+use Rattle.vital_sound.specs.Times.{are_short, is_short}
 
 -- ---- ports and signals
 

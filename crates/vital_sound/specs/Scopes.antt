@@ -11,8 +11,8 @@ use Rattle.vital_objects.specs.declared.port.Port.{Port}
 use Rattle.vital_objects.specs.declared.signal.Signal.{Signal}
 use Rattle.vital_objects.specs.declared.variable.Variable.{Variable}
 use Rattle.vital_operands.specs.declared.tree.ConstantName.{ConstantName}
-use Rattle.vital_sound_actuals.specs.ActualScopes.{ActualScope}
-use Rattle.vital_sound_expr.specs.Scopes.{Scope}
+use Rattle.vital_sound.specs.ActualScopes.{ActualScope}
+use Rattle.vital_sound.specs.ExprScopes.{Scope}
 use Rattle.vital_sound.specs.Fitting.{is_table}
 use Rattle.vital_sound.specs.Named.{constant_is, has_element, is_delay, is_glitch_data, is_input_port, is_internal, is_level, is_output_port, is_package_delay, is_package_level, is_package_time, is_period_data, is_plain_generic, is_scalar, is_time, is_timing_data, is_timing_generic, is_vector, is_x01, variable_is}
 

@@ -6,11 +6,11 @@ use Rattle.vital_level0.specs.Clauses.{is_delay_type_of, is_linkage}
 use Rattle.vital_nodes.specs.IdentifierNames.{IsIdentifierName}
 use Rattle.vital_objects.specs.declared.generic.TimingGeneric.{TimingGeneric}
 use Rattle.vital_objects.specs.declared.port.Port.{Port}
-use Rattle.vital_sound_expr.specs.Scopes.{Scope}
-use Rattle.vital_sound_expr.specs.Times.{are_short}
-use Rattle.vital_sound_names.specs.KeptStates.{kept}
-use Rattle.vital_sound_names.specs.SpelledNames.{is_port_name, spelled}
-use Rattle.vital_sound_names.specs.TreeNames.{names_of_cell, names_of_process}
+use Rattle.vital_sound.specs.ExprScopes.{Scope}
+use Rattle.vital_sound.specs.Times.{are_short}
+use Rattle.vital_sound.specs.KeptStates.{kept}
+use Rattle.vital_sound.specs.SpelledNames.{is_port_name, spelled}
+use Rattle.vital_sound.specs.TreeNames.{names_of_cell, names_of_process}
 use Rattle.vital_timing.specs.Delays.{type_of}
 use Rattle.vital_typed_cells.specs.declared.process.CellProcess.{CellProcess}
 use Rattle.vital_typed_cells.specs.declared.typed_cell.TypedCell.{TypedCell}

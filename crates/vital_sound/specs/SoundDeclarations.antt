@@ -14,9 +14,9 @@ use Rattle.vital_objects.specs.declared.variable.VariableKind.{VariableKind}
 use Rattle.vital_objects.specs.declared.variable.VariableKind.TheVariants as kind
 use Rattle.vital_objects.specs.PackageValues.{value_at}
 use Rattle.vital_typed_cells.specs.declared.typed_cell.TypedCell.{TypedCell}
-use Rattle.vital_sound_expr.specs.Scopes.{Scope}
-use Rattle.vital_sound_expr.specs.Times.{are_short, is_short}
-use Rattle.vital_sound_expr.specs.Trees.{is_sound_boolean, is_sound_delay, is_sound_level, is_sound_time, is_sound_vector}
+use Rattle.vital_sound.specs.ExprScopes.{Scope}
+use Rattle.vital_sound.specs.Times.{are_short, is_short}
+use Rattle.vital_sound.specs.Trees.{is_sound_boolean, is_sound_delay, is_sound_level, is_sound_time, is_sound_vector}
 use Rattle.vital_sound.specs.Named.{is_package_truth}
 use Rattle.vital_sound.specs.Scopes.{in_values, of_packages, scope_of}
 

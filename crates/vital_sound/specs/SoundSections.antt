@@ -6,12 +6,12 @@ use Rattle.vital_sections.specs.declared.sections.FunctionalStatement.{Functiona
 use Rattle.vital_sections.specs.declared.sections.FunctionalStatement.TheVariants as functional
 use Rattle.vital_sections.specs.declared.sections.Sections.{Sections}
 use Rattle.vital_sections.specs.declared.state_table.StateTable.{StateTable}
-use Rattle.vital_sound_actuals.specs.ActualScopes.{ActualScope}
-use Rattle.vital_sound_actuals.specs.SoundActuals.{is_sound_target}
-use Rattle.vital_sound_expr.specs.Scopes.{Scope}
-use Rattle.vital_sound_expr.specs.Trees.{is_sound_vector}
-use Rattle.vital_sound_sections.specs.SoundStatements.{is_sound_check, is_sound_path_delay}
-use Rattle.vital_sound_statements.specs.SoundAssignments.{is_sound_value}
+use Rattle.vital_sound.specs.ActualScopes.{ActualScope}
+use Rattle.vital_sound.specs.SoundActuals.{is_sound_target}
+use Rattle.vital_sound.specs.ExprScopes.{Scope}
+use Rattle.vital_sound.specs.Trees.{is_sound_vector}
+use Rattle.vital_sound.specs.SoundStatements.{is_sound_check, is_sound_path_delay}
+use Rattle.vital_sound.specs.SoundAssignments.{is_sound_value}
 use Rattle.vital_typed_statements.specs.StateTables.{results_of}
 use Rattle.vital_sound.specs.Scopes.{StateTableTest}
 

@@ -13,14 +13,15 @@ ghost use Rattle.vital_nodes.specs.Walk.{nodes_of_all};
 ghost use Rattle.vital_operands.specs.Positions.{InStatement};
 ghost use Rattle.vital_sound.specs.Scopes.{in_process, scope_of};
 ghost use Rattle.vital_sound.specs.Sound.{IsSound};
-ghost use Rattle.vital_sound_expr.specs.Positions.{HasNameAt};
+ghost use Rattle.vital_sound.specs.Positions.{HasNameAt};
 ghost use Rattle.vital_uses.specs.Statements.{processes};
 
-use vital_sound_names::{
-    bits_are_there, ports_are_formed, processes_stand_before_wires, timing_generics_are_formed,
-    tree_names_are_formed, tree_names_differ, tree_states_differ, tree_wires_are_apart,
-    wires_have_generics,
+use crate::declared_names::{tree_names_are_formed, tree_names_differ};
+use crate::kept_states::tree_states_differ;
+use crate::numbers::{
+    bits_are_there, processes_stand_before_wires, tree_wires_are_apart, wires_have_generics,
 };
+use crate::spelled_names::{ports_are_formed, timing_generics_are_formed};
 
 /// In a cell that meets Level 1, and that is as cells are read from files, what each name in the statements of a process stands for is in
 /// the scope of the process of its typed tree: a law, called for its clause.

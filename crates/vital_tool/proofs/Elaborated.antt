@@ -1,7 +1,7 @@
 -- What is answered to a top, whoever judges its cells.
 use Rattle.std.proofs.Common.{◌≡◌, ℕ, List, Some, Result, Ok, Err, ap, ◌∙◌}
-use Rattle.vital_designs.specs.Designs.{Design}
-use Rattle.vital_designs.specs.Elaboration.{Fault, designed, elaborated, entered}
+use Rattle.vital_netlist.specs.Designs.{Design}
+use Rattle.vital_netlist.specs.Elaboration.{Fault, designed, elaborated, entered}
 use Rattle.vital_instances.specs.declared.fault.Fault.{Fault as InstanceFault}
 use Rattle.vital_instances.specs.declared.fault.InstancesError.TheVariants as error
 use Rattle.vital_instances.specs.declared.instance.Instance.{Instance}

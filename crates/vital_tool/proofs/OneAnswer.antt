@@ -4,7 +4,7 @@ use Rattle.std.specs.List.{slice_get}
 use Rattle.vital_base.specs.Shelves.{Files}
 use Rattle.vital_base.specs.Sinks.{Told}
 use Rattle.vital_base.specs.declared.place.Place.{Place}
-use Rattle.vital_designs.specs.Elaboration.{elaborated}
+use Rattle.vital_netlist.specs.Elaboration.{elaborated}
 use Rattle.vital_instances.specs.Judges.{IsJudge, Judge}
 use Rattle.vital_level0.specs.Breaches.{HasOneFirst}
 use Rattle.vital_library.specs.Faults.{least_of, faults}

@@ -5,9 +5,9 @@ use Rattle.std.proofs.lemmas.Grind.{flat_map-append}
 use Rattle.std.proofs.lemmas.List.{drop_all, drop_more, length-map}
 use Rattle.std.proofs.lemmas.Option.{slice_get-get_or}
 use Rattle.std.proofs.lemmas.List.FromFn.{get_or-enumerate_from, get_or-map-range_with_len, length-enumerate_from, length-map-range_with_len}
-use Rattle.vital_designs.specs.declared.design_lists.DesignInstance.{DesignInstance as DesignInstance'}
-use Rattle.vital_designs.specs.Designs.{Design, DesignInstance, DesignSignal, drivers_of}
-use Rattle.vital_designs.specs.Trees.{tree_instance, tree_instances, tree_signal, tree_signals}
+use Rattle.vital_netlist.specs.declared.design_lists.DesignInstance.{DesignInstance as DesignInstance'}
+use Rattle.vital_netlist.specs.Designs.{Design, DesignInstance, DesignSignal, drivers_of}
+use Rattle.vital_netlist.specs.Trees.{tree_instance, tree_instances, tree_signal, tree_signals}
 use Rattle.vital_report.specs.Lines.{bytes_of, end_of_design}
 use Rattle.vital_tool.specs.Answer.{text_of}
 use Rattle.vital_tool.specs.Trees.{instance_line, signal_line, tree_lines}

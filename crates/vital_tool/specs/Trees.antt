@@ -1,9 +1,9 @@
 -- The answer of `tree`: the design under a top, or its refusal.
 use Rattle.std.specs.Prelude.{◌≡◌, ℕ, List, [], ◌∷◌, ◌++◌, codes, map, Some, Result, Ok, Err}
 use Rattle.vital_base.specs.declared.breach.Breach.{Breach}
-use Rattle.vital_designs.specs.Designs.{Design}
-use Rattle.vital_designs.specs.Elaboration.{Fault, IsElaborated}
-use Rattle.vital_designs.specs.Trees.{TreeInstance, TreeSignal, tree_instances, tree_signals}
+use Rattle.vital_netlist.specs.Designs.{Design}
+use Rattle.vital_netlist.specs.Elaboration.{Fault, IsElaborated}
+use Rattle.vital_netlist.specs.Trees.{TreeInstance, TreeSignal, tree_instances, tree_signals}
 use Rattle.vital_netlist.specs.declared.net_fault.NetLimit.{NetLimit}
 use Rattle.vital_netlist.specs.declared.net_fault.NetLimit.TheVariants as net_limit
 use Rattle.vital_netlist.specs.Refusals.{Mark, NetFault, Refusal, Net, Limit, refused as refused_as}

@@ -2,7 +2,7 @@
 
 ghost use Rattle.std.specs.Prelude.{◌≡◌, false, All};
 ghost use Rattle.vital_as_read.specs.Libraries.{IsFromText};
-ghost use Rattle.vital_designs.specs.Elaboration.{designed};
+ghost use Rattle.vital_netlist.specs.Elaboration.{designed};
 ghost use Rattle.vital_instances.specs.Designs.{AreEntered};
 ghost use Rattle.vital_tool.specs.Outcome.{Stage};
 ghost use Rattle.vital_tool.specs.Trees.{IsTreeAnswer, design_answer, tree_answer};
@@ -13,14 +13,11 @@ use crate::status::Status;
 use crate::tree::print_design;
 use std::alloc::Global;
 use vital_base::Sink;
-use vital_design_cells::Cells;
-use vital_designs::Design;
 use vital_instances::{Instance, InstancesError, NetUnits, instances, one_judge};
 use vital_level1::Packages;
 use vital_library::Library;
 use vital_names::LibraryNames;
-use vital_netlist::{ElabError, elaborate, refusal_of};
-use vital_nets::DesignParts;
+use vital_netlist::{Cells, Design, DesignParts, ElabError, elaborate, refusal_of};
 use vital_report::Printer;
 use vital_typed_cells::TypedPackages;
 use vital_words::NamedFile;

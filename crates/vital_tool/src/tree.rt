@@ -1,8 +1,8 @@
 //! The lines of the design under a top.
 
 ghost use Rattle.std.specs.Prelude.{◌≡◌, false, map};
-ghost use Rattle.vital_designs.specs.Designs.{lent_instance, lent_signal};
-ghost use Rattle.vital_designs.specs.Trees.{name_of, tree_instance, tree_instances, tree_signals};
+ghost use Rattle.vital_netlist.specs.Designs.{lent_instance, lent_signal};
+ghost use Rattle.vital_netlist.specs.Trees.{name_of, tree_instance, tree_instances, tree_signals};
 ghost use Rattle.vital_report.specs.Lines.{bytes_of, signal as signal'};
 ghost use Rattle.vital_tool.specs.Answer.{text_of};
 ghost use Rattle.vital_tool.specs.Outcome.{PrintsPart};
@@ -11,7 +11,7 @@ ghost use Rattle.vital_tool.specs.Trees as spec;
 use crate::lines::PrintError;
 use std::alloc::Global;
 use vital_base::Sink;
-use vital_designs::{Design, DesignInstance, DesignSignal};
+use vital_netlist::{Design, DesignInstance, DesignSignal};
 use vital_report::{Line, Printer};
 
 /// Prints the line of the instance of a number.

@@ -11,17 +11,14 @@ ghost use Rattle.vital_typed_declarations.specs.declared.asked_type.AskedType.Th
 use crate::asked_type::{AskedType, asked_of_generic};
 use std::alloc::AllocError;
 use vital_base::Place;
-use vital_boolean_expr::boolean;
 use vital_declarations::{DeclaredType, type_of};
-use vital_expr::{Reader, text};
-use vital_level_expr::{level, vector};
+use vital_expr::{Reader, boolean, delay, level, text, time, vector};
 use vital_level0::{DefaultWord, default_word};
 use vital_names::TypeName;
 use vital_nodes::{Expr, Iface};
 use vital_operands::{
     BooleanExpr, DelayExpr, LevelExpr, Position, Standing, TimeExpr, VectorExpr, even_delay,
 };
-use vital_time_expr::{delay, time};
 use vital_timing::DelayType;
 use vital_walk::identifier_of;
 

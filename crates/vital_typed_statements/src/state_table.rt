@@ -9,7 +9,7 @@ ghost use Rattle.vital_typed_statements.specs.StateTables as spec;
 
 use crate::given::GivenActual;
 use vital_actuals::{Actual, Target};
-use vital_level_expr::length_of;
+use vital_expr::length_of;
 
 /// What is given first for the formal of a name.
 fn given_for<'a>(name: &[u8], given: &'a [GivenActual]) -> Option<&'a GivenActual>

@@ -13,7 +13,7 @@ use Rattle.vital_operands.specs.declared.tree.TruthTableCall.{TruthTableCall, ou
 use Rattle.vital_sound.specs.Fitting.{are_parted}
 use Rattle.vital_sound.specs.Named.{has_package_rows}
 use Rattle.vital_sound.specs.SoundDeclarations.{names_in_packages}
-use Rattle.vital_sound_expr.specs.Trees.{vector_worth}
+use Rattle.vital_sound.specs.Trees.{vector_worth}
 use Rattle.vital_table.specs.Tables.{is_table}
 use Rattle.vital_worths.specs.Expressions.{rows_of, truth_table, vector}
 use Rattle.vital_worths.specs.Packages.{in_packages, of_packages, packages_worth, rows_in}

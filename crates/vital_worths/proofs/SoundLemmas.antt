@@ -21,7 +21,7 @@ use Rattle.vital_operands.specs.declared.tree.TruthTableCall.{TruthTableCall, ou
 use Rattle.vital_operands.specs.declared.tree.VectorExpr.{VectorExpr}
 use Rattle.vital_operands.specs.declared.tree.VectorExpr.TheVariants as vector'
 use Rattle.vital_sound.specs.SoundDeclarations.{names_in_packages}
-use Rattle.vital_sound_expr.specs.Trees.{call_step, level_step, vector_step, vector_worth}
+use Rattle.vital_sound.specs.Trees.{call_step, level_step, vector_step, vector_worth}
 use Rattle.vital_worths.specs.Expressions.{level, vector}
 use Rattle.vital_worths.specs.Packages.{in_packages, packages_worth}
 use Rattle.vital_worths.specs.SoundTrees.{is_sound_call, is_sound_tree, is_sound_vector}

@@ -9,12 +9,12 @@ use super::Row;
 use super::printing::{Asked, put_asked};
 use std::alloc::{AllocError, Global};
 use vital_base::List;
-use vital_design_cells::Cells;
 use vital_instances::{Instance, NetUnits, instances};
 use vital_level1::Packages;
 use vital_library::{Library, gather};
 use vital_ll::Rules;
 use vital_names::LibraryNames;
+use vital_netlist::Cells;
 use vital_typed_cells::TypedPackages;
 use vital_vhdl::{Role, UnitError, Units, read_units};
 

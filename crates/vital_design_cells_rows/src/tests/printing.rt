@@ -2,8 +2,8 @@
 
 use std::alloc::{AllocError, Global};
 use vital_checked::Checked;
-use vital_design_cells::Cells;
 use vital_library::Library;
+use vital_netlist::Cells;
 
 /// What is asked of the cells of a design.
 #[derive(Clone, Copy)]

@@ -10,15 +10,12 @@ use super::files::{CELLS, UNITS};
 use super::printing::{put_error, put_tree, put_values, put_wiring};
 use std::alloc::{AllocError, Global};
 use vital_base::List;
-use vital_design_cells::Cells;
-use vital_designs::Design;
 use vital_instances::{Instance, NetUnits, instances};
 use vital_level1::Packages;
 use vital_library::{Library, gather};
 use vital_ll::Rules;
 use vital_names::LibraryNames;
-use vital_netlist::elaborate;
-use vital_nets::DesignParts;
+use vital_netlist::{Cells, Design, DesignParts, elaborate};
 use vital_typed_cells::TypedPackages;
 use vital_vhdl::{Role, UnitError, Units, read_units};
 

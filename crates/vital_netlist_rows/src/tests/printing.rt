@@ -2,9 +2,8 @@
 
 use std::alloc::{AllocError, Global};
 use vital_base::Place;
-use vital_designs::{Design, DesignInstance};
 use vital_logic::{Level, to_byte};
-use vital_netlist::{ElabError, NetFault, NetLimit};
+use vital_netlist::{Design, DesignInstance, ElabError, NetFault, NetLimit};
 
 fn put_bytes(text: &mut String, bytes: &[u8]) -> Result<(), AllocError> {
     for byte in bytes {

@@ -1,6 +1,6 @@
 use Rattle.std.proofs.Common.{◌≡◌, map, take}
-use Rattle.vital_designs.specs.Designs.{lent_instance}
-use Rattle.vital_designs.specs.Elaboration.{design_instance}
+use Rattle.vital_netlist.specs.Designs.{lent_instance}
+use Rattle.vital_netlist.specs.Elaboration.{design_instance}
 use Rattle.vital_netlist.proofs.elaboration.instances_of.Given as goal
 
 abbrev pub invariant-loop-number : goal.invariant-loop-number

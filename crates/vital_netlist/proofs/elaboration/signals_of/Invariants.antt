@@ -1,7 +1,7 @@
 use Rattle.std.proofs.Common.{◌≡◌, map, take}
 use Rattle.std.specs.List.{filter_map}
-use Rattle.vital_designs.specs.Designs.{lent_signal}
-use Rattle.vital_designs.specs.Elaboration.{design_signal}
+use Rattle.vital_netlist.specs.Designs.{lent_signal}
+use Rattle.vital_netlist.specs.Elaboration.{design_signal}
 use Rattle.vital_netlist.proofs.elaboration.signals_of.Given as goal
 
 abbrev pub invariant-loop-bit : goal.invariant-loop-bit

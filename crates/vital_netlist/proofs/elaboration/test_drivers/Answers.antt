@@ -1,8 +1,8 @@
 use Rattle.std.proofs.Common.{◌≡◌, ◌<◌, length, subst, arith}
 use Rattle.std.proofs.lemmas.Result.{err_from_is_err_and}
 use Rattle.std.specs.Prelude.{Option}
-use Rattle.vital_designs.specs.Drivers.{driver_count}
-use Rattle.vital_designs.specs.Elaboration.{Fault}
+use Rattle.vital_netlist.specs.DesignDrivers.{driver_count}
+use Rattle.vital_netlist.specs.Elaboration.{Fault}
 use Rattle.vital_netlist.specs.Refusals.{IsFaultIn}
 use Rattle.vital_netlist.proofs.CountLemmas.{count-at, count-there, fault-here, none-all, none-past}
 use Rattle.vital_netlist.proofs.elaboration.test_drivers.Goals as goal

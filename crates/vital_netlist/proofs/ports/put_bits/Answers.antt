@@ -1,8 +1,8 @@
 use Rattle.std.proofs.Common.{◌≡◌, ◌+◌, true, arith}
 use Rattle.std.specs.Prelude.{nat_lt, Some}
 use Rattle.vital_connections.specs.Objects.{lent}
-use Rattle.vital_designs.specs.Elaboration.{port_bit_in}
-use Rattle.vital_nets.specs.Bits.{bit}
+use Rattle.vital_netlist.specs.Elaboration.{port_bit_in}
+use Rattle.vital_netlist.specs.Bits.{bit}
 use Rattle.vital_netlist.proofs.PortLemmas.{bits-turn, within-next}
 use Rattle.vital_netlist.proofs.ports.put_bits.Goals as goal
 

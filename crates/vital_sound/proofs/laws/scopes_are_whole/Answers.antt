@@ -4,7 +4,7 @@ use Rattle.vital_names.specs.declared.site.CellUnit.TheVariants.{Architecture}
 use Rattle.vital_nodes.specs.Nodes.{sequentials}
 use Rattle.vital_nodes.specs.Walk.{nodes_of_all}
 use Rattle.vital_operands.specs.Positions.{InStatement}
-use Rattle.vital_sound_expr.specs.Positions.{HasNameAt}
+use Rattle.vital_sound.specs.Positions.{HasNameAt}
 use Rattle.vital_sound.specs.Scopes.{scope_of}
 use Rattle.vital_uses.specs.Statements.{processes}
 use Rattle.vital_sound.proofs.Found.{weaker}

@@ -1,6 +1,6 @@
 use Rattle.std.proofs.lemmas.List.Elements.{All-from_recursion}
 use Rattle.vital_uses.specs.Nodes.{sited_interface}
-use Rattle.vital_sound_names.specs.TypedDefaults.{HasTypedDefault}
+use Rattle.vital_sound.specs.TypedDefaults.{HasTypedDefault}
 use Rattle.vital_sound.proofs.Cells.{NamesTold, cell-sound, generics-typed}
 use Rattle.vital_sound.proofs.Generics.{types-fit}
 use Rattle.vital_sound.proofs.Told.{all-told}

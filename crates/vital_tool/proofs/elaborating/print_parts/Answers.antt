@@ -1,4 +1,4 @@
-use Rattle.vital_designs.specs.Elaboration.{designed}
+use Rattle.vital_netlist.specs.Elaboration.{designed}
 use Rattle.vital_tool.proofs.Elaborated.{answer_of_design, answer_of_error}
 use Rattle.vital_tool.proofs.Printing.{stage_for}
 use Rattle.vital_tool.proofs.elaborating.print_parts.Goals as goal

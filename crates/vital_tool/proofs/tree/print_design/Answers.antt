@@ -1,5 +1,5 @@
 use Rattle.std.proofs.Common.{List, ℕ, [], ◌++◌, map, subst}
-use Rattle.vital_designs.specs.Trees.{tree_instances, tree_signals}
+use Rattle.vital_netlist.specs.Trees.{tree_instances, tree_signals}
 use Rattle.vital_report.specs.Lines.{bytes_of, end_of_design}
 use Rattle.vital_tool.specs.Answer.{text_of}
 use Rattle.vital_tool.specs.Trees.{instance_line, signal_line, tree_lines}

@@ -1,5 +1,5 @@
-use Rattle.vital_designs.specs.Designs.{lent_instance}
-use Rattle.vital_designs.specs.Trees.{tree_instance}
+use Rattle.vital_netlist.specs.Designs.{lent_instance}
+use Rattle.vital_netlist.specs.Trees.{tree_instance}
 use Rattle.vital_report.specs.Lines.{bytes_of}
 use Rattle.vital_tool.specs.Trees.{instance_line}
 use Rattle.vital_tool.proofs.Parts.{play_breaks}

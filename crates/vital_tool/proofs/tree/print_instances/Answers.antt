@@ -1,6 +1,6 @@
 use Rattle.std.proofs.Common.{List, ℕ, ◌+◌, ◌<◌, get_or, length, map, subst, arith}
-use Rattle.vital_designs.specs.Designs.{lent_instance}
-use Rattle.vital_designs.specs.Trees.{tree_instance, tree_instances}
+use Rattle.vital_netlist.specs.Designs.{lent_instance}
+use Rattle.vital_netlist.specs.Trees.{tree_instance, tree_instances}
 use Rattle.vital_report.specs.Lines.{bytes_of}
 use Rattle.vital_tool.specs.Answer.{text_of}
 use Rattle.vital_tool.specs.Trees.{instance_line}

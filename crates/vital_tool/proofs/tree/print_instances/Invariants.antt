@@ -1,5 +1,5 @@
 use Rattle.std.proofs.Common.{map}
-use Rattle.vital_designs.specs.Trees.{tree_instances}
+use Rattle.vital_netlist.specs.Trees.{tree_instances}
 use Rattle.vital_tool.specs.Answer.{text_of}
 use Rattle.vital_tool.specs.Trees.{instance_line}
 use Rattle.vital_tool.proofs.Parts.{Part}

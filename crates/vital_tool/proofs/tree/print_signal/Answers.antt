@@ -1,5 +1,5 @@
-use Rattle.vital_designs.specs.Designs.{lent_signal}
-use Rattle.vital_designs.specs.Trees.{name_of}
+use Rattle.vital_netlist.specs.Designs.{lent_signal}
+use Rattle.vital_netlist.specs.Trees.{name_of}
 use Rattle.vital_report.specs.Lines.{bytes_of, signal}
 use Rattle.vital_tool.proofs.Parts.{play_breaks}
 use Rattle.vital_tool.proofs.Texts.{printed_none}

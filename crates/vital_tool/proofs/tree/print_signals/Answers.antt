@@ -1,6 +1,6 @@
 use Rattle.std.proofs.Common.{◌≡◌, List, ℕ, ◌+◌, Err, length, ap, map, subst, arith}
-use Rattle.vital_designs.specs.Designs.{drivers_of, lent_signal}
-use Rattle.vital_designs.specs.Trees.{name_of, tree_signal, tree_signals}
+use Rattle.vital_netlist.specs.Designs.{drivers_of, lent_signal}
+use Rattle.vital_netlist.specs.Trees.{name_of, tree_signal, tree_signals}
 use Rattle.vital_report.specs.Lines.{bytes_of, signal}
 use Rattle.vital_report.specs.Reporters.{Printed}
 use Rattle.vital_tool.specs.Answer.{text_of}

@@ -1,7 +1,0 @@
-use Rattle.std.proofs.Common.{◌≡◌, ◌++◌, map, take}
-use Rattle.vital_connections.specs.Objects.{lent}
-use Rattle.vital_design_cells.specs.Objects.{object_of_internal}
-use Rattle.vital_design_cells.proofs.object.put_internals.Given as goal
-
-abbrev pub invariant-loop-signal : goal.invariant-loop-signal
-invariant-loop-signal l = map lent l.objects.items ≡ map lent l.initial.objects.items ++ map object_of_internal (take l.signal-index l.signals)

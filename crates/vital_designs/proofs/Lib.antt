@@ -1,5 +1,0 @@
-pub mod NameLemmas
-pub mod LabelLemmas
-pub mod CountLemmas
-pub mod SoundLemmas
-mod Rows

@@ -1,5 +1,0 @@
-use Rattle.vital_nets.proofs.TableLemmas.{AreNone}
-use Rattle.vital_nets.proofs.unit_table.no_units.Given as goal
-
-abbrev pub invariant-loop : goal.invariant-loop
-invariant-loop l = AreNone l.counter l.units.items

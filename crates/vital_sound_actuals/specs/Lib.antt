@@ -1,3 +1,0 @@
-pub mod ActualScopes
-pub mod ActualPositions
-pub mod SoundActuals

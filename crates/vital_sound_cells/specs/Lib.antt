@@ -1,3 +1,0 @@
-pub mod Drivers
-pub mod Kept
-pub mod Names

@@ -1,6 +1,0 @@
-pub mod Scopes
-pub mod Positions
-pub mod Times
-pub mod Trees
-pub mod Calls
-pub mod Told

@@ -1,4 +1,0 @@
-pub mod KeptStates
-pub mod SpelledNames
-pub mod TreeNames
-pub mod TypedDefaults

@@ -1,4 +1,0 @@
-pub mod Given
-pub mod Checks
-pub mod PathDelays
-pub mod StateTables

@@ -1,3 +1,0 @@
-pub mod SoundStatements
-pub mod GivenItems
-pub mod SoundTables
