@@ -2,3 +2,4 @@ pub mod DigitLemmas
 pub mod LiteralLemmas
 pub mod NumeralLemmas
 pub mod OrderLemmas
+pub mod WordLemmas

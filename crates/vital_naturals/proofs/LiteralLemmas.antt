@@ -29,7 +29,7 @@ append-none [] = refl
 append-none (x ∷ xs) = ap (λ ys. x ∷ ys) (append-none xs)
 
 -- a literal is its last digit behind the others
-last-digit : (rest others : List ℕ) (byte : ℕ) → rest ≡ others ++ byte ∷ [] → is_ascii_digit byte ≡ true → number rest ≡ number others * 10 + (byte - 48)
+pub last-digit : (rest others : List ℕ) (byte : ℕ) → rest ≡ others ++ byte ∷ [] → is_ascii_digit byte ≡ true → number rest ≡ number others * 10 + (byte - 48)
 last-digit rest others byte is digit =
     ap number is
     ∙ ap (digits_value 10) (digits-of-last others byte true digit)
@@ -37,7 +37,7 @@ last-digit rest others byte is digit =
     ∙ ap (λ d. number others * 10 + d) (digit-is byte digit)
 
 -- what is no digit counts for nothing
-no-digit : (rest others : List ℕ) (byte : ℕ) → rest ≡ others ++ byte ∷ [] → is_ascii_digit byte ≡ false → number rest ≡ number others
+pub no-digit : (rest others : List ℕ) (byte : ℕ) → rest ≡ others ++ byte ∷ [] → is_ascii_digit byte ≡ false → number rest ≡ number others
 no-digit rest others byte is digit =
     ap number is ∙ ap (digits_value 10) (digits-of-last others byte false digit ∙ append-none (filter is_ascii_digit others))
 

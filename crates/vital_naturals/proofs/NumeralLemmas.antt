@@ -43,7 +43,7 @@ digits-of-value : (ds : List ℕ) → AreDigits ds → digits_of 10 (value ds) �
 digits-of-value [] h = refl
 digits-of-value (d ∷ ds) h = behind-before d (value ds) (significant ds) (first-digit d ds h) (value-significant ds) (digits-of-value ds (other-digits d ds h))
 
-numeral-of-some : (n : ℕ) → 0 < n → numeral n ≡ map (λ d. 48 + d) (digits_of 10 n)
+pub numeral-of-some : (n : ℕ) → 0 < n → numeral n ≡ map (λ d. 48 + d) (digits_of 10 n)
 numeral-of-some zero h = absurd (omega arith)
 numeral-of-some (suc n) h = refl
 
@@ -55,7 +55,7 @@ none-there : (ds : List ℕ) → length ds ≡ 0 → ds ≡ []
 none-there [] h = refl
 none-there (d ∷ ds) h = absurd (omega (arith, h))
 
-map-push : (f : ℕ → ℕ) (ds : List ℕ) (d : ℕ) → map f (ds ++ d ∷ []) ≡ map f ds ++ f d ∷ []
+pub map-push : (f : ℕ → ℕ) (ds : List ℕ) (d : ℕ) → map f (ds ++ d ∷ []) ≡ map f ds ++ f d ∷ []
 map-push f [] d = refl
 map-push f (x ∷ xs) d = ap (λ ys. f x ∷ ys) (map-push f xs d)
 
