@@ -29,6 +29,16 @@ pub struct Asked<'a> {
     pub top: &'a [u8],
 }
 
+/// A library with what is made of it before its instances are: its names, what the constants of its packages break and pass, and what its
+/// netlist units hold.
+#[derive(Clone, Copy)]
+struct Prepared<'a> {
+    library: &'a Library,
+    names: &'a LibraryNames<'a>,
+    packages: &'a Packages<'a>,
+    net_units: &'a NetUnits<'a>,
+}
+
 /// Prints the design under a top of a library, or refuses it.
 pub fn print_tree<K: Sink>(
     alloc: Global,
@@ -75,7 +85,6 @@ fn print_judged<'a, K: Sink>(
     printer: &mut Printer<'_, K>,
 ) -> Status
     requires read { All IsFromText library.now }
-    requires names { names.now ≡ library.now }
     requires packages { packages.now ≡ library.now }
     requires goes_on { printer.old.stopped ≡ false }
     ensures { Stage (IsTreeAnswer asked.entry.files.now library.now asked.entry.top.now) result printer.old printer.new }
@@ -83,33 +92,33 @@ fn print_judged<'a, K: Sink>(
     let Ok(net_units) = NetUnits::new(alloc, library, names) else {
         return Status::NoMemory;
     };
-    print_under(alloc, asked, library, names, packages, &net_units, printer)
+    let of = Prepared {
+        library,
+        names,
+        packages,
+        net_units: &net_units,
+    };
+    print_under(alloc, asked, &of, printer)
 }
 
-/// The same with what its netlist units hold.
-fn print_under<'a, K: Sink>(
+/// The same with all that is made of the library before.
+fn print_under<K: Sink>(
     alloc: Global,
     asked: Asked<'_>,
-    library: &'a Library,
-    names: &'a LibraryNames<'a>,
-    packages: &'a Packages<'a>,
-    net_units: &'a NetUnits<'a>,
+    of: &Prepared<'_>,
     printer: &mut Printer<'_, K>,
 ) -> Status
-    requires read { All IsFromText library.now }
-    requires names { names.now ≡ library.now }
-    requires packages { packages.now ≡ library.now }
-    requires net_units { net_units.now ≡ library.now }
+    requires read { All IsFromText of.now.library.now }
+    requires packages { of.now.packages.now ≡ of.now.library.now }
+    requires net_units { of.now.net_units.now ≡ of.now.library.now }
     requires goes_on { printer.old.stopped ≡ false }
-    ensures { Stage (IsTreeAnswer asked.entry.files.now library.now asked.entry.top.now) result printer.old printer.new }
+    ensures { Stage (IsTreeAnswer asked.entry.files.now of.now.library.now asked.entry.top.now) result printer.old printer.new }
 {
     one_judge();
-    match instances(alloc, library, packages, net_units, asked.top) {
+    match instances(alloc, of.library, of.packages, of.net_units, asked.top) {
         Ok(found) => {
             let entered = found.as_slice();
-            print_entered(
-                alloc, asked, library, names, packages, net_units, entered, printer,
-            )
+            print_entered(alloc, asked, of, entered, printer)
         }
         Err(InstancesError::Fault(fault)) => {
             refuse_design(asked.files, asked.top, refusal_of(fault), printer)
@@ -119,34 +128,30 @@ fn print_under<'a, K: Sink>(
 }
 
 /// The same with the instances under the top.
-fn print_entered<'a, K: Sink>(
+fn print_entered<K: Sink>(
     alloc: Global,
     asked: Asked<'_>,
-    library: &'a Library,
-    names: &'a LibraryNames<'a>,
-    packages: &'a Packages<'a>,
-    net_units: &'a NetUnits<'a>,
-    entered: &'a [Instance],
+    of: &Prepared<'_>,
+    entered: &[Instance],
     printer: &mut Printer<'_, K>,
 ) -> Status
-    requires read { All IsFromText library.now }
-    requires names { names.now ≡ library.now }
-    requires packages { packages.now ≡ library.now }
-    requires net_units { net_units.now ≡ library.now }
-    requires entered { AreEntered library.now entered.now }
+    requires read { All IsFromText of.now.library.now }
+    requires packages { of.now.packages.now ≡ of.now.library.now }
+    requires net_units { of.now.net_units.now ≡ of.now.library.now }
+    requires entered { AreEntered of.now.library.now entered.now }
     requires goes_on { printer.old.stopped ≡ false }
-    ensures { Stage (λ answer. answer ≡ tree_answer asked.entry.files.now asked.entry.top.now (designed library.now entered.now)) result printer.old printer.new }
+    ensures { Stage (λ answer. answer ≡ tree_answer asked.entry.files.now asked.entry.top.now (designed of.now.library.now entered.now)) result printer.old printer.new }
 {
-    let Ok(typed) = TypedPackages::new(alloc, packages) else {
+    let Ok(typed) = TypedPackages::new(alloc, of.packages) else {
         return Status::NoMemory;
     };
-    let Ok(cells) = Cells::new(alloc, library, &typed, entered) else {
+    let Ok(cells) = Cells::new(alloc, of.library, &typed, entered) else {
         return Status::NoMemory;
     };
     let parts = DesignParts {
-        library,
-        names,
-        net_units,
+        library: of.library,
+        names: of.names,
+        net_units: of.net_units,
         instances: entered,
         cells: &cells,
     };
@@ -161,7 +166,6 @@ fn print_parts<K: Sink>(
     printer: &mut Printer<'_, K>,
 ) -> Status
     requires read { All IsFromText parts.now.library.now }
-    requires names { parts.now.names.now ≡ parts.now.library.now }
     requires net_units { parts.now.net_units.now ≡ parts.now.library.now }
     requires cells { parts.now.cells.now ≡ record { files = parts.now.library.now; instances = parts.now.instances.now } }
     requires entered { AreEntered parts.now.library.now parts.now.instances.now }

@@ -5,13 +5,13 @@ use Rattle.vital_tool.proofs.elaborating.print_under.Goals as goal
 pub print_entered-requires-clause-entered : goal.print_entered-requires-clause-entered
 print_entered-requires-clause-entered g c =
     let asked = c.args.asked in
-    rw c.as_slice-entered.ensures (instances_entered c.args.library.now asked.top.now c.in-Ok.found c.in-Ok.ensures)
+    rw c.as_slice-entered.ensures (instances_entered c.args.of.now.library.now asked.top.now c.in-Ok.found c.in-Ok.ensures)
 
 pub returns-in-Ok : goal.returns-in-Ok
 returns-in-Ok g c =
     let asked = c.args.asked in
     stage_for _ _ _ _ _ (rw c.as_slice-entered.ensures at c.print_entered.ensures)
-    (answer_of_instances c.one_judge.ensures.only asked.files.now c.args.library.now asked.top.now c.in-Ok.found c.in-Ok.ensures)
+    (answer_of_instances c.one_judge.ensures.only asked.files.now c.args.of.now.library.now asked.top.now c.in-Ok.found c.in-Ok.ensures)
 
 pub returns-in-Err-Fault : goal.returns-in-Err-Fault
 returns-in-Err-Fault g c =
@@ -19,4 +19,4 @@ returns-in-Err-Fault g c =
     let told = rw c.in-Err-Fault.field-0-is at c.in-Err-Fault.ensures in
     let refused = rw c.in-Err-Fault.field-0-is at c.refusal_of.ensures in
     stage_for _ _ _ _ _ (rw refused at c.refuse_design.ensures)
-    (answer_of_fault c.one_judge.ensures.only asked.files.now c.args.library.now asked.top.now c.in-Err-Fault.fault told)
+    (answer_of_fault c.one_judge.ensures.only asked.files.now c.args.of.now.library.now asked.top.now c.in-Err-Fault.fault told)
