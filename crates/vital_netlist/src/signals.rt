@@ -1,8 +1,8 @@
 //! The signals of a design.
 
-ghost use Rattle.std.specs.Prelude.{◌≡◌, ◌≤◌, ◌∷◌, ◌++◌, [], length, map, IfErr, IfOk, OnOk};
+ghost use Rattle.std.specs.Prelude.{◌≡◌, ◌≤◌, ◌∷◌, ◌++◌, [], length, map, position, IfErr, IfOk, OnOk};
 ghost use Rattle.vital_connections.specs.Runs.{bits_of_run, bits_of_runs};
-ghost use Rattle.vital_netlist.specs.Bits.{bit as bit'};
+ghost use Rattle.vital_netlist.specs.Bits.{bit as bit', is_same};
 ghost use Rattle.vital_netlist.specs.Nets as spec;
 ghost use Rattle.vital_netlist.specs.Put as put';
 ghost use Rattle.vital_netlist.specs.declared.signals.SignalsError.TheVariants.{NoMemory};
@@ -172,6 +172,13 @@ impl Signals {
         &self.bits
     }
 
+    /// The number of the signal that a bit is, if it is its own net. It takes time in proportion to the digits of the number of signals.
+    fn number_of_own(&self, bit: &Bit) -> Option<usize>
+        ensures { result ≡ position (is_same bit.now) self.now }
+    {
+        number_among(&self.bits, bit)
+    }
+
     /// The number of the signal of a bit. It takes time in proportion to the labels on the path of the instance of the bit, and to the digits
     /// of the number of signals.
     pub fn number(
@@ -184,6 +191,6 @@ impl Signals {
         ensures { IfOk result (λ n. n ≡ spec.signal_number netlist.now.files netlist.now.instances bit) }
     {
         let net = netlist.net(alloc, bit)?;
-        Ok(number_among(&self.bits, &net))
+        Ok(self.number_of_own(&net))
     }
 }

@@ -1,6 +1,6 @@
 //! The units of a design.
 
-ghost use Rattle.std.specs.Prelude.{◌≡◌, ◌≤◌, ◌<◌, ◌+◌, ◌^◌, [], length, map, take, All, IsSome, Some, None, IfOk};
+ghost use Rattle.std.specs.Prelude.{◌≡◌, ◌≤◌, ◌<◌, ◌+◌, ◌^◌, [], length, map, min, take, All, IsSome, Some, None, IfOk};
 ghost use Rattle.std.specs.List.{enumerate_from};
 ghost use Rattle.vital_connections.specs.Objects.{bits_of_all, lent, object_of_signal};
 ghost use Rattle.vital_connections.specs.Runs.{bits_of_runs};
@@ -44,6 +44,14 @@ pub fn no_objects<'b, 'a>() -> &'b [Object<'a>]
     ensures { result.now ≡ [] }
 {
     &[]
+}
+
+/// The lesser of two numbers.
+fn lesser(first: usize, second: usize) -> usize
+    ensures least { result ≡ min first second }
+    ensures within { result ≤ second }
+{
+    if first < second { first } else { second }
 }
 
 /// The bits of ports and signals, of which the first has this number.
@@ -124,7 +132,7 @@ impl<'a> Unit<'a> {
         ensures { IfOk result (λ found. spec.IsUnit cells.now.files entity found) }
     {
         let objects = objects_of(alloc, names, cells, packages, entity, unit)?;
-        let ports = unit.entity.ports.as_slice().len().min(objects.len());
+        let ports = lesser(unit.entity.ports.as_slice().len(), objects.len());
         let (front, behind) = objects.split_at(ports);
         let port_bits = bits_from(alloc, 0, front)?;
         let signal_bits = bits_from(alloc, ports, behind)?;
