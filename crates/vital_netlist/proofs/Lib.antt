@@ -36,7 +36,7 @@ pub mod UnitNames
 pub mod PortNames
 pub mod DesignCells
 pub mod SignalParts
-pub mod Wiring
+pub mod SignalWires
 pub mod TopPorts
 pub mod FewSignals
 pub mod ListLemmas

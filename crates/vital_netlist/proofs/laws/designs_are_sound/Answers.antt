@@ -7,7 +7,7 @@ use Rattle.vital_netlist.proofs.SignalParts.{drivers-there, instances-sound, sig
 use Rattle.vital_netlist.proofs.TopPorts.{top-ports}
 use Rattle.vital_netlist.proofs.UnitFacts.{Known}
 use Rattle.vital_netlist.proofs.UnitNames.{Read}
-use Rattle.vital_netlist.proofs.Wiring.{drivers-of-cells, wired, wired-once}
+use Rattle.vital_netlist.proofs.SignalWires.{drivers-of-cells, wired, wired-once}
 use Rattle.vital_netlist.proofs.laws.designs_are_sound.Goals as goal
 
 pub returns : goal.returns
