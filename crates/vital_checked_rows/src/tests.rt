@@ -18,13 +18,15 @@ use self::package_values::PACKAGE_VALUES;
 use self::printing::put_cell;
 use std::alloc::{AllocError, Global};
 use std::test::Fail;
-use vital_base::List;
-use vital_checked::{CheckError, check_cell, default_values};
+use vital_base::{Breach, List};
+use vital_checked::{CheckError, Checked, check_cell, default_values};
 use vital_level1::Packages;
 use vital_library::{Library, gather};
+use vital_limits::PassedLimit;
 use vital_ll::Rules;
 use vital_names::LibraryNames;
 use vital_nodes::{Arch, Entity};
+use vital_timing::Delay;
 use vital_typed_cells::TypedPackages;
 use vital_vhdl::{Role, UnitError, Units, read_units, vhdl_rules};
 
@@ -54,6 +56,57 @@ fn first_cell(library: &Library) -> Option<(&Entity, Option<&Arch>)>
     Some((library.entity(0), arch))
 }
 
+/// Puts what the timing generics of a cell begin with.
+fn put_values(text: &mut String, values: &[Delay]) -> Result<(), AllocError> {
+    for delay in values {
+        write!(text, "value {delay:?}\n")?;
+    }
+    Ok(())
+}
+
+/// Puts a cell that meets Level 1.
+fn put_checked(alloc: Global, text: &mut String, checked: &Checked) -> Result<(), AllocError> {
+    put_cell(text, checked.cell())?;
+    let values = default_values(alloc, checked)?;
+    put_values(text, values.as_slice())
+}
+
+fn put_limit(text: &mut String, passed: PassedLimit) -> Result<(), AllocError> {
+    let place = passed.place;
+    write!(text, "{:?} {} {}", passed.limit, place.line, place.column)
+}
+
+fn put_breach(text: &mut String, breach: Breach) -> Result<(), AllocError> {
+    let clause = breach.clause;
+    let place = breach.place;
+    write!(
+        text,
+        "L{}.{} {} {}",
+        clause.level, clause.number, place.line, place.column
+    )
+}
+
+fn put_error(text: &mut String, error: CheckError) -> Result<(), AllocError> {
+    match error {
+        CheckError::Limit(passed) => put_limit(text, passed),
+        CheckError::Broken(breach) => put_breach(text, breach),
+        CheckError::NoMemory => Err(AllocError),
+    }
+}
+
+/// What is printed of a checked cell, or of why it is none.
+fn printed_answer(
+    alloc: Global,
+    answer: &Result<Checked, CheckError>,
+) -> Result<String, AllocError> {
+    let mut text = String::new(alloc);
+    match answer {
+        Ok(checked) => put_checked(alloc, &mut text, checked)?,
+        Err(error) => put_error(&mut text, *error)?,
+    }
+    Ok(text)
+}
+
 /// What is printed of a cell of a library.
 fn printed_cell(
     alloc: Global,
@@ -67,31 +120,8 @@ fn printed_cell(
     let names = LibraryNames::new(alloc, library)?;
     let packages = Packages::new(alloc, &names)?;
     let typed = TypedPackages::new(alloc, &packages)?;
-    let mut text = String::new(alloc);
-    match check_cell(alloc, &typed, entity, arch) {
-        Ok(checked) => {
-            put_cell(&mut text, checked.cell())?;
-            let values = default_values(alloc, &checked)?;
-            for delay in values.as_slice() {
-                write!(text, "value {delay:?}\n")?;
-            }
-        }
-        Err(CheckError::Limit(passed)) => {
-            let place = passed.place;
-            write!(text, "{:?} {} {}", passed.limit, place.line, place.column)?;
-        }
-        Err(CheckError::Broken(breach)) => {
-            let clause = breach.clause;
-            let place = breach.place;
-            write!(
-                text,
-                "L{}.{} {} {}",
-                clause.level, clause.number, place.line, place.column
-            )?;
-        }
-        Err(CheckError::NoMemory) => return Err(AllocError),
-    }
-    Ok(text)
+    let answer = check_cell(alloc, &typed, entity, arch);
+    printed_answer(alloc, &answer)
 }
 
 /// What is printed of a cell behind a package.
