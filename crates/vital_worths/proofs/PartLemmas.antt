@@ -13,8 +13,8 @@ use Rattle.vital_operands.specs.declared.tree.LevelExpr.TheVariants as level'
 use Rattle.vital_operands.specs.declared.tree.TruthTableCall.{TruthTableCall}
 use Rattle.vital_operands.specs.declared.tree.VectorExpr.{VectorExpr}
 use Rattle.vital_operands.specs.declared.tree.VectorExpr.TheVariants as vector'
-use Rattle.vital_primitives.specs.Operators.{converted, negated}
-use Rattle.vital_worths.specs.Expressions.{Names, first, level, results, vector}
+use Rattle.vital_primitives.specs.Operators.{converted, first, negated}
+use Rattle.vital_worths.specs.Expressions.{Names, level, results, vector}
 use Rattle.vital_worths.specs.SoundTrees.{is_sound_call, is_sound_tree, is_sound_vector}
 use Rattle.vital_worths.proofs.SoundLemmas.{sound-conversion, sound-levels, sound-logical, sound-not, sound-others, sound-primitive, sound-result, sound-results}
 use Rattle.vital_worths.proofs.TreeLemmas.{level-conversion, level-not, level-results, vector-others}

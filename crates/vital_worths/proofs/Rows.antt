@@ -5,7 +5,8 @@ use Rattle.vital_logic.specs.declared.level.Level.TheVariants.{U, X, One, Z, H}
 use Rattle.vital_nodes.specs.declared.expr.Logical.TheVariants.{And, Or, Xor, Xnor, Nand, Nor}
 use Rattle.vital_operands.specs.declared.tree.BooleanExpr.TheOpen.{BooleanExpr-F}
 use Rattle.vital_operands.specs.declared.tree.ConstantName.TheVariants as constant
-use Rattle.vital_worths.specs.Expressions.{Level', Rows, Time, level_of, rows_of, same_level, truth_results, truth2, truth_step}
+use Rattle.vital_worths.specs.Expressions.{Level', Rows, Time, level_of, rows_of, truth_results, truth_step}
+use Rattle.vital_primitives.specs.Operators.{same_level, truth2}
 use Rattle.vital_worths.specs.Packages.{in_packages, of_packages}
 
 -- ---- truth values

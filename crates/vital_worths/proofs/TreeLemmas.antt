@@ -15,9 +15,9 @@ use Rattle.vital_operands.specs.declared.tree.LevelExpr.TheViews.{roll-LevelExpr
 use Rattle.vital_operands.specs.declared.tree.TruthTableCall.{TruthTableCall, out-TruthTableCall}
 use Rattle.vital_operands.specs.declared.tree.VectorExpr.{VectorExpr}
 use Rattle.vital_operands.specs.declared.tree.VectorExpr.TheVariants as vector'
-use Rattle.vital_primitives.specs.Operators.{converted, negated, operated}
+use Rattle.vital_primitives.specs.Operators.{converted, first, negated, operated}
 use Rattle.vital_primitives.specs.Primitives.{primitive}
-use Rattle.vital_worths.specs.Expressions.{Names, call_step, first, level, level_of, level_step, results, rows_of, truth_results, vector, vector_step}
+use Rattle.vital_worths.specs.Expressions.{Names, call_step, level, level_of, level_step, results, rows_of, truth_results, vector, vector_step}
 
 level-roll : (e : Names) (l : LevelExpr-F LevelExpr VectorExpr TruthTableCall) → level e (roll-LevelExpr l) ≡ level_step e (map-LevelExpr LevelExpr VectorExpr TruthTableCall Level (List Level) (ℕ → List Level) (level e) (vector e) (results e) l)
 unfolding level vector results

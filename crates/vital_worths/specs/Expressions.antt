@@ -1,11 +1,8 @@
 -- What typed expressions are worth.
-use Rattle.std.specs.Prelude.{ℕ, Bool, not, true, false, ◌&&◌, ◌||◌, ◌==◌, List, [], map, length, replicate, Option, Some, unwrap_or}
+use Rattle.std.specs.Prelude.{ℕ, Bool, not, false, List, [], map, length, replicate, Option, Some, unwrap_or}
 use Rattle.std.specs.List.{range_with_len, reduce, slice_index_or}
 use Rattle.vital_logic.specs.declared.level.Level.{Level}
 use Rattle.vital_logic.specs.declared.level.Level.TheVariants.{U, X}
-use Rattle.vital_logic.specs.Levels.{byte_of}
-use Rattle.vital_nodes.specs.declared.expr.Logical.{Logical}
-use Rattle.vital_nodes.specs.declared.expr.Logical.TheVariants.{And, Or, Xor, Xnor, Nand, Nor}
 use Rattle.vital_operands.specs.declared.tree.BooleanExpr.{BooleanExpr}
 use Rattle.vital_operands.specs.declared.tree.BooleanExpr.TheFolds.{fold-BooleanExpr}
 use Rattle.vital_operands.specs.declared.tree.BooleanExpr.TheOpen.{BooleanExpr-F}
@@ -16,7 +13,7 @@ use Rattle.vital_operands.specs.declared.tree.LevelExpr.TheFolds.{fold-LevelExpr
 use Rattle.vital_operands.specs.declared.tree.LevelExpr.TheOpen.{LevelExpr-F, TruthTableCall-F, VectorExpr-F}
 use Rattle.vital_operands.specs.declared.tree.TruthTableCall.{TruthTableCall}
 use Rattle.vital_operands.specs.declared.tree.VectorExpr.{VectorExpr}
-use Rattle.vital_primitives.specs.Operators.{converted, negated, operated}
+use Rattle.vital_primitives.specs.Operators.{converted, first, negated, operated, same_level, same_truth, truth2}
 use Rattle.vital_primitives.specs.Primitives.{primitive}
 use Rattle.vital_table.specs.Matches.{first_row}
 use Rattle.vital_table.specs.Results.{result_at}
@@ -53,10 +50,6 @@ rows_of (Some (Rows rows)) = rows
 rows_of other = []
 
 -- ---- levels and vectors
-
--- The first level of a variable or of results.
-abbrev pub first : List Level → Level
-first levels = slice_index_or levels 0 U
 
 -- A truth table has no states.
 abbrev pub truth_table : List (List ℕ) → List Level → ℕ → Table
@@ -111,22 +104,6 @@ unfoldable pub results : Names → TruthTableCall → ℕ → List Level
 results e = fold-TruthTableCall Level (List Level) (ℕ → List Level) (level_step e) (vector_step e) (call_step e)
 
 -- ---- truth values
-
-abbrev pub same_level : Level → Level → Bool
-same_level a b = byte_of a == byte_of b
-
-abbrev pub same_truth : Bool → Bool → Bool
-same_truth true b = b
-same_truth false b = not b
-
--- Logical operators of BOOLEAN (IEEE 1076-1993, 7.2.1).
-abbrev pub truth2 : Logical → Bool → Bool → Bool
-truth2 And a b = a && b
-truth2 Or a b = a || b
-truth2 Xor a b = not (same_truth a b)
-truth2 Xnor a b = same_truth a b
-truth2 Nand a b = not (a && b)
-truth2 Nor a b = not (a || b)
 
 abbrev pub truth_step : Names → BooleanExpr-F Bool → Bool
 truth_step e (BooleanExpr-F.Literal b) = b

@@ -2,6 +2,7 @@
 
 ghost use Rattle.std.specs.Prelude.{◌≡◌, map, replicate, IfOk, IsTrue};
 ghost use Rattle.std.specs.List.{AllPass};
+ghost use Rattle.vital_primitives.specs.Operators as operators;
 ghost use Rattle.vital_worths.specs.Expressions as worth;
 ghost use Rattle.vital_worths.specs.Packages.{in_packages, packages_worth};
 ghost use Rattle.vital_worths.specs.SoundTrees as sound;
@@ -15,7 +16,7 @@ use vital_primitives::{converted, operated, primitive};
 
 /// The first of levels; U if there is none.
 fn first(levels: &[Level]) -> Level
-    ensures { result ≡ worth.first levels.now }
+    ensures { result ≡ operators.first levels.now }
 {
     match levels.first() {
         Some(level) => *level,
