@@ -8,7 +8,10 @@ use Rattle.vital_nodes.specs.declared.expr.Relational.TheVariants as relational
 use Rattle.vital_nodes.specs.Layers.{ExprLayer}
 use Rattle.vital_operands.specs.declared.tree.BooleanExpr.{BooleanExpr}
 use Rattle.vital_operands.specs.declared.tree.BooleanExpr.TheVariants as truth
+use Rattle.vital_operands.specs.declared.tree.LevelExpr.{LevelExpr}
 use Rattle.vital_operands.specs.Items.{is_positional}
+use Rattle.vital_expr.specs.declared.equality.Equality.{Equality}
+use Rattle.vital_expr.specs.declared.equality.Equality.TheVariants as equality
 use Rattle.vital_expr.specs.declared.side.Side.{Side}
 use Rattle.vital_expr.specs.declared.side.Side.TheVariants as side
 use Rattle.vital_expr.specs.Outcomes.{Outcome, both, broken, map_typed, typed}
@@ -54,6 +57,19 @@ other_sides own (side.Level a) (side.Level b) = typed (truth.OtherLevels a b)
 other_sides own (side.Level a) (side.Boolean b) = broken own
 other_sides own (side.Boolean a) (side.Level b) = broken own
 other_sides own (side.Boolean a) (side.Boolean b) = typed (truth.Other a b)
+
+-- Two sides that are to be the same, or to be others.
+abbrev pub compared : List Place → Equality → Side → Side → Outcome BooleanExpr
+compared own equality.Same = same_sides own
+compared own equality.Other = other_sides own
+
+abbrev pub of_levels : Equality → LevelExpr → LevelExpr → BooleanExpr
+of_levels equality.Same a b = truth.SameLevels a b
+of_levels equality.Other a b = truth.OtherLevels a b
+
+abbrev pub of_booleans : Equality → BooleanExpr → BooleanExpr → BooleanExpr
+of_booleans equality.Same a b = truth.Same a b
+of_booleans equality.Other a b = truth.Other a b
 
 -- Of the relational operators `=` and `/=` compare levels and truth values, both sides of one kind.
 abbrev pub related_by : List Place → Relational → Reading → Reading → Outcome BooleanExpr

@@ -1,15 +1,16 @@
 //! Expressions that give truth values.
 
-ghost use Rattle.std.specs.Prelude.{◌≡◌, ◌++◌, [], IfOk, OnOk, is_some};
+ghost use Rattle.std.specs.Prelude.{◌≡◌, ◌++◌, IfOk, OnOk, is_some};
 ghost use Rattle.std.specs.Option.{option_map};
 ghost use Rattle.vital_expr.specs.Booleans as spec;
-ghost use Rattle.vital_expr.specs.Outcomes.{both, both_by, map_typed};
+ghost use Rattle.vital_expr.specs.Outcomes.{both, map_typed};
 ghost use Rattle.vital_expr.specs.Reading.{booleans_of, first_of};
 ghost use Rattle.vital_expr.specs.Readings.{boolean_of, breach, reading};
 ghost use Rattle.vital_expr.specs.Seen.{lent};
 ghost use Rattle.vital_expr.specs.Steps as steps;
 ghost use Rattle.vital_operands.specs.declared.tree.BooleanExpr.TheVariants as truth;
 
+use crate::equality::{Equality, compared_if_typed};
 use crate::levels::level;
 use crate::reader::Reader;
 use crate::side::Side;
@@ -206,138 +207,28 @@ fn related(
     ensures places { OnOk result (broken.new.items ≡ broken.old.items ++ (spec.related_by (breach (lent reader.now) expr.now) relation.now.operator (reading (lent reader.now) relation.now.left) (reading (lent reader.now) relation.now.right)).places) }
 {
     match relation.operator {
-        Relational::Equal => same(reader, relation, expr, broken),
-        Relational::NotEqual => other(reader, relation, expr, broken),
+        Relational::Equal => compared(reader, Equality::Same, relation, expr, broken),
+        Relational::NotEqual => compared(reader, Equality::Other, relation, expr, broken),
         _ => reader.broken(expr, broken),
     }
 }
 
-/// Two sides that are to be the same.
+/// Two sides that are compared.
 #[cycle(booleans)]
 #[tactic(auto, using(crate::proofs::Both::places_before, crate::proofs::Both::tree_apart))]
-fn same(
+fn compared(
     reader: &Reader<'_>,
+    equality: Equality,
     relation: &Relation,
     expr: &Expr,
     broken: &mut Vec<Place>,
 ) -> Result<Option<BooleanExpr>, AllocError>
-    ensures tree { IfOk result (λ tree. tree ≡ (both (spec.same_sides (breach (lent reader.now) expr.now)) (spec.side_of (reading (lent reader.now) relation.now.left)) (spec.side_of (reading (lent reader.now) relation.now.right))).tree) }
-    ensures places { OnOk result (broken.new.items ≡ broken.old.items ++ (both (spec.same_sides (breach (lent reader.now) expr.now)) (spec.side_of (reading (lent reader.now) relation.now.left)) (spec.side_of (reading (lent reader.now) relation.now.right))).places) }
+    ensures tree { IfOk result (λ tree. tree ≡ (both (spec.compared (breach (lent reader.now) expr.now) equality) (spec.side_of (reading (lent reader.now) relation.now.left)) (spec.side_of (reading (lent reader.now) relation.now.right))).tree) }
+    ensures places { OnOk result (broken.new.items ≡ broken.old.items ++ (both (spec.compared (breach (lent reader.now) expr.now) equality) (spec.side_of (reading (lent reader.now) relation.now.left)) (spec.side_of (reading (lent reader.now) relation.now.right))).places) }
 {
     let left = side(reader, &relation.left, broken)?;
     let right = side(reader, &relation.right, broken)?;
-    same_if_typed(reader, left, right, expr, broken)
-}
-
-/// The same, of the sides if both are of their forms.
-fn same_if_typed(
-    reader: &Reader<'_>,
-    left: Option<Side>,
-    right: Option<Side>,
-    expr: &Expr,
-    broken: &mut Vec<Place>,
-) -> Result<Option<BooleanExpr>, AllocError>
-    ensures tree { IfOk result (λ tree. tree ≡ (both_by (spec.same_sides (breach (lent reader.now) expr.now)) left right []).tree) }
-    ensures places { OnOk result (broken.new.items ≡ broken.old.items ++ (both_by (spec.same_sides (breach (lent reader.now) expr.now)) left right []).places) }
-{
-    match left {
-        Some(left) => match right {
-            Some(right) => same_sides(reader, left, right, expr, broken),
-            None => Ok(None),
-        },
-        None => Ok(None),
-    }
-}
-
-/// The same, of the sides themselves.
-fn same_sides(
-    reader: &Reader<'_>,
-    left: Side,
-    right: Side,
-    expr: &Expr,
-    broken: &mut Vec<Place>,
-) -> Result<Option<BooleanExpr>, AllocError>
-    ensures tree { IfOk result (λ tree. tree ≡ (spec.same_sides (breach (lent reader.now) expr.now) left right).tree) }
-    ensures places { OnOk result (broken.new.items ≡ broken.old.items ++ (spec.same_sides (breach (lent reader.now) expr.now) left right).places) }
-{
-    match left {
-        Side::Level(left) => match right {
-            Side::Level(right) => Ok(Some(BooleanExpr::SameLevels(left, right))),
-            Side::Boolean(_) => reader.broken(expr, broken),
-        },
-        Side::Boolean(left) => match right {
-            Side::Level(_) => reader.broken(expr, broken),
-            Side::Boolean(right) => {
-                let left = Boxed::new(reader.alloc, left)?;
-                let right = Boxed::new(reader.alloc, right)?;
-                Ok(Some(BooleanExpr::Same(left, right)))
-            }
-        },
-    }
-}
-
-/// Two sides that are to be others.
-#[cycle(booleans)]
-#[tactic(auto, using(crate::proofs::Both::places_before, crate::proofs::Both::tree_apart))]
-fn other(
-    reader: &Reader<'_>,
-    relation: &Relation,
-    expr: &Expr,
-    broken: &mut Vec<Place>,
-) -> Result<Option<BooleanExpr>, AllocError>
-    ensures tree { IfOk result (λ tree. tree ≡ (both (spec.other_sides (breach (lent reader.now) expr.now)) (spec.side_of (reading (lent reader.now) relation.now.left)) (spec.side_of (reading (lent reader.now) relation.now.right))).tree) }
-    ensures places { OnOk result (broken.new.items ≡ broken.old.items ++ (both (spec.other_sides (breach (lent reader.now) expr.now)) (spec.side_of (reading (lent reader.now) relation.now.left)) (spec.side_of (reading (lent reader.now) relation.now.right))).places) }
-{
-    let left = side(reader, &relation.left, broken)?;
-    let right = side(reader, &relation.right, broken)?;
-    other_if_typed(reader, left, right, expr, broken)
-}
-
-/// The same, of the sides if both are of their forms.
-fn other_if_typed(
-    reader: &Reader<'_>,
-    left: Option<Side>,
-    right: Option<Side>,
-    expr: &Expr,
-    broken: &mut Vec<Place>,
-) -> Result<Option<BooleanExpr>, AllocError>
-    ensures tree { IfOk result (λ tree. tree ≡ (both_by (spec.other_sides (breach (lent reader.now) expr.now)) left right []).tree) }
-    ensures places { OnOk result (broken.new.items ≡ broken.old.items ++ (both_by (spec.other_sides (breach (lent reader.now) expr.now)) left right []).places) }
-{
-    match left {
-        Some(left) => match right {
-            Some(right) => other_sides(reader, left, right, expr, broken),
-            None => Ok(None),
-        },
-        None => Ok(None),
-    }
-}
-
-/// The same, of the sides themselves.
-fn other_sides(
-    reader: &Reader<'_>,
-    left: Side,
-    right: Side,
-    expr: &Expr,
-    broken: &mut Vec<Place>,
-) -> Result<Option<BooleanExpr>, AllocError>
-    ensures tree { IfOk result (λ tree. tree ≡ (spec.other_sides (breach (lent reader.now) expr.now) left right).tree) }
-    ensures places { OnOk result (broken.new.items ≡ broken.old.items ++ (spec.other_sides (breach (lent reader.now) expr.now) left right).places) }
-{
-    match left {
-        Side::Level(left) => match right {
-            Side::Level(right) => Ok(Some(BooleanExpr::OtherLevels(left, right))),
-            Side::Boolean(_) => reader.broken(expr, broken),
-        },
-        Side::Boolean(left) => match right {
-            Side::Level(_) => reader.broken(expr, broken),
-            Side::Boolean(right) => {
-                let left = Boxed::new(reader.alloc, left)?;
-                let right = Boxed::new(reader.alloc, right)?;
-                Ok(Some(BooleanExpr::Other(left, right)))
-            }
-        },
-    }
+    compared_if_typed(reader, equality, left, right, expr, broken)
 }
 
 /// A name of which a truth value is asked.

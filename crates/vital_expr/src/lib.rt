@@ -4,6 +4,7 @@
 mod booleans;
 mod calls;
 mod delays;
+mod equality;
 mod lengths;
 mod level_forms;
 mod levels;
