@@ -104,7 +104,11 @@ impl<'a> GivenCall<'a> {
         ensures { IfOk result (λ given. given ≡ spec.count_given (lent self.now)) }
     {
         match self.given(b"numstates", ActualForm::StateCount)? {
-            Some(actual) => Ok(count_in(&actual)),
+            Some(actual) => {
+                let count = count_in(&actual);
+                drop(actual);
+                Ok(count)
+            }
             None => Ok(None),
         }
     }
@@ -124,7 +128,11 @@ impl<'a> GivenCall<'a> {
         ensures { IfOk result (λ given. given ≡ spec.edge_given (lent self.now)) }
     {
         match self.given(b"reftransition", ActualForm::EdgeSymbol)? {
-            Some(actual) => Ok(edge_in(&actual)),
+            Some(actual) => {
+                let edge = edge_in(&actual);
+                drop(actual);
+                Ok(edge)
+            }
             None => Ok(None),
         }
     }
@@ -178,10 +186,13 @@ impl<'a> GivenCall<'a> {
     pub fn mode(&self) -> Result<GlitchMode, AllocError>
         ensures { IfOk result (λ given. given ≡ spec.mode_given (lent self.now)) }
     {
-        let given = match self.given(b"mode", ActualForm::Mode)? {
-            Some(actual) => mode_in(&actual),
-            None => None,
-        };
-        Ok(given.unwrap_or(GlitchMode::OnEvent))
+        match self.given(b"mode", ActualForm::Mode)? {
+            Some(actual) => {
+                let mode = mode_in(&actual);
+                drop(actual);
+                Ok(mode.unwrap_or(GlitchMode::OnEvent))
+            }
+            None => Ok(GlitchMode::OnEvent),
+        }
     }
 }

@@ -15,20 +15,10 @@ pub fn name_in(actual: Actual) -> Option<Name>
 {
     match actual {
         Actual::Named(name) => Some(name),
-        Actual::Target(_)
-        | Actual::Table(_, _)
-        | Actual::Inputs(_)
-        | Actual::StateCount(_)
-        | Actual::Level(_)
-        | Actual::Delay(_)
-        | Actual::Time(_)
-        | Actual::Boolean(_)
-        | Actual::Text
-        | Actual::Mode(_)
-        | Actual::Severity(_)
-        | Actual::Fixed
-        | Actual::EdgeSymbol(_)
-        | Actual::Paths(_) => None,
+        other => {
+            drop(other);
+            None
+        }
     }
 }
 
@@ -38,20 +28,10 @@ pub fn target_in(actual: Actual) -> Option<Target>
 {
     match actual {
         Actual::Target(target) => Some(target),
-        Actual::Named(_)
-        | Actual::Table(_, _)
-        | Actual::Inputs(_)
-        | Actual::StateCount(_)
-        | Actual::Level(_)
-        | Actual::Delay(_)
-        | Actual::Time(_)
-        | Actual::Boolean(_)
-        | Actual::Text
-        | Actual::Mode(_)
-        | Actual::Severity(_)
-        | Actual::Fixed
-        | Actual::EdgeSymbol(_)
-        | Actual::Paths(_) => None,
+        other => {
+            drop(other);
+            None
+        }
     }
 }
 
@@ -61,20 +41,10 @@ pub fn table_in(actual: Actual) -> Option<ConstantName>
 {
     match actual {
         Actual::Table(table, _) => Some(table),
-        Actual::Named(_)
-        | Actual::Target(_)
-        | Actual::Inputs(_)
-        | Actual::StateCount(_)
-        | Actual::Level(_)
-        | Actual::Delay(_)
-        | Actual::Time(_)
-        | Actual::Boolean(_)
-        | Actual::Text
-        | Actual::Mode(_)
-        | Actual::Severity(_)
-        | Actual::Fixed
-        | Actual::EdgeSymbol(_)
-        | Actual::Paths(_) => None,
+        other => {
+            drop(other);
+            None
+        }
     }
 }
 
@@ -84,20 +54,10 @@ pub fn inputs_in(actual: Actual) -> Option<VectorExpr>
 {
     match actual {
         Actual::Inputs(inputs) => Some(inputs),
-        Actual::Named(_)
-        | Actual::Target(_)
-        | Actual::Table(_, _)
-        | Actual::StateCount(_)
-        | Actual::Level(_)
-        | Actual::Delay(_)
-        | Actual::Time(_)
-        | Actual::Boolean(_)
-        | Actual::Text
-        | Actual::Mode(_)
-        | Actual::Severity(_)
-        | Actual::Fixed
-        | Actual::EdgeSymbol(_)
-        | Actual::Paths(_) => None,
+        other => {
+            drop(other);
+            None
+        }
     }
 }
 
@@ -107,20 +67,7 @@ pub fn count_in(actual: &Actual) -> Option<usize>
 {
     match actual {
         Actual::StateCount(count) => Some(*count),
-        Actual::Named(_)
-        | Actual::Target(_)
-        | Actual::Table(_, _)
-        | Actual::Inputs(_)
-        | Actual::Level(_)
-        | Actual::Delay(_)
-        | Actual::Time(_)
-        | Actual::Boolean(_)
-        | Actual::Text
-        | Actual::Mode(_)
-        | Actual::Severity(_)
-        | Actual::Fixed
-        | Actual::EdgeSymbol(_)
-        | Actual::Paths(_) => None,
+        _ => None,
     }
 }
 
@@ -130,20 +77,10 @@ pub fn level_in(actual: Actual) -> Option<LevelExpr>
 {
     match actual {
         Actual::Level(level) => Some(level),
-        Actual::Named(_)
-        | Actual::Target(_)
-        | Actual::Table(_, _)
-        | Actual::Inputs(_)
-        | Actual::StateCount(_)
-        | Actual::Delay(_)
-        | Actual::Time(_)
-        | Actual::Boolean(_)
-        | Actual::Text
-        | Actual::Mode(_)
-        | Actual::Severity(_)
-        | Actual::Fixed
-        | Actual::EdgeSymbol(_)
-        | Actual::Paths(_) => None,
+        other => {
+            drop(other);
+            None
+        }
     }
 }
 
@@ -153,20 +90,10 @@ pub fn delay_in(actual: Actual) -> Option<DelayExpr>
 {
     match actual {
         Actual::Delay(delay) => Some(delay),
-        Actual::Named(_)
-        | Actual::Target(_)
-        | Actual::Table(_, _)
-        | Actual::Inputs(_)
-        | Actual::StateCount(_)
-        | Actual::Level(_)
-        | Actual::Time(_)
-        | Actual::Boolean(_)
-        | Actual::Text
-        | Actual::Mode(_)
-        | Actual::Severity(_)
-        | Actual::Fixed
-        | Actual::EdgeSymbol(_)
-        | Actual::Paths(_) => None,
+        other => {
+            drop(other);
+            None
+        }
     }
 }
 
@@ -176,20 +103,10 @@ pub fn time_in(actual: Actual) -> Option<TimeExpr>
 {
     match actual {
         Actual::Time(time) => Some(time),
-        Actual::Named(_)
-        | Actual::Target(_)
-        | Actual::Table(_, _)
-        | Actual::Inputs(_)
-        | Actual::StateCount(_)
-        | Actual::Level(_)
-        | Actual::Delay(_)
-        | Actual::Boolean(_)
-        | Actual::Text
-        | Actual::Mode(_)
-        | Actual::Severity(_)
-        | Actual::Fixed
-        | Actual::EdgeSymbol(_)
-        | Actual::Paths(_) => None,
+        other => {
+            drop(other);
+            None
+        }
     }
 }
 
@@ -199,20 +116,10 @@ pub fn truth_in(actual: Actual) -> Option<BooleanExpr>
 {
     match actual {
         Actual::Boolean(truth) => Some(truth),
-        Actual::Named(_)
-        | Actual::Target(_)
-        | Actual::Table(_, _)
-        | Actual::Inputs(_)
-        | Actual::StateCount(_)
-        | Actual::Level(_)
-        | Actual::Delay(_)
-        | Actual::Time(_)
-        | Actual::Text
-        | Actual::Mode(_)
-        | Actual::Severity(_)
-        | Actual::Fixed
-        | Actual::EdgeSymbol(_)
-        | Actual::Paths(_) => None,
+        other => {
+            drop(other);
+            None
+        }
     }
 }
 
@@ -222,20 +129,7 @@ pub fn mode_in(actual: &Actual) -> Option<GlitchMode>
 {
     match actual {
         Actual::Mode(mode) => Some(*mode),
-        Actual::Named(_)
-        | Actual::Target(_)
-        | Actual::Table(_, _)
-        | Actual::Inputs(_)
-        | Actual::StateCount(_)
-        | Actual::Level(_)
-        | Actual::Delay(_)
-        | Actual::Time(_)
-        | Actual::Boolean(_)
-        | Actual::Text
-        | Actual::Severity(_)
-        | Actual::Fixed
-        | Actual::EdgeSymbol(_)
-        | Actual::Paths(_) => None,
+        _ => None,
     }
 }
 
@@ -245,20 +139,7 @@ pub fn edge_in(actual: &Actual) -> Option<u8>
 {
     match actual {
         Actual::EdgeSymbol(symbol) => Some(*symbol),
-        Actual::Named(_)
-        | Actual::Target(_)
-        | Actual::Table(_, _)
-        | Actual::Inputs(_)
-        | Actual::StateCount(_)
-        | Actual::Level(_)
-        | Actual::Delay(_)
-        | Actual::Time(_)
-        | Actual::Boolean(_)
-        | Actual::Text
-        | Actual::Mode(_)
-        | Actual::Severity(_)
-        | Actual::Fixed
-        | Actual::Paths(_) => None,
+        _ => None,
     }
 }
 
@@ -268,19 +149,9 @@ pub fn paths_in(actual: Actual) -> Option<Items<Path>>
 {
     match actual {
         Actual::Paths(paths) => Some(paths),
-        Actual::Named(_)
-        | Actual::Target(_)
-        | Actual::Table(_, _)
-        | Actual::Inputs(_)
-        | Actual::StateCount(_)
-        | Actual::Level(_)
-        | Actual::Delay(_)
-        | Actual::Time(_)
-        | Actual::Boolean(_)
-        | Actual::Text
-        | Actual::Mode(_)
-        | Actual::Severity(_)
-        | Actual::Fixed
-        | Actual::EdgeSymbol(_) => None,
+        other => {
+            drop(other);
+            None
+        }
     }
 }

@@ -79,26 +79,41 @@ pub enum TimingCheck {
     PeriodPulse(PeriodPulseCheck),
 }
 
+/// What a check has whose variable and whose signal are these.
+fn parts_with(
+    call: &GivenCall<'_>,
+    violation: Name,
+    test_signal: Name,
+) -> Result<CheckParts, AllocError>
+    ensures { IfOk result (λ parts. parts ≡ spec.parts_with (lent call.now) violation test_signal) }
+{
+    Ok(CheckParts {
+        violation,
+        test_signal,
+        check_enabled: call.truth(b"checkenabled")?,
+        x_on: call.truth(b"xon")?,
+        msg_on: call.truth(b"msgon")?,
+    })
+}
+
+/// What a check has whose variable is this.
+fn with_test(call: &GivenCall<'_>, violation: Name) -> Result<Option<CheckParts>, AllocError>
+    ensures { IfOk result (λ parts. parts ≡ spec.with_test (lent call.now) violation) }
+{
+    match call.name(b"testsignal", ActualForm::Signal)? {
+        Some(test_signal) => Ok(Some(parts_with(call, violation, test_signal)?)),
+        None => Ok(None),
+    }
+}
+
 /// What every check has.
 fn parts(call: &GivenCall<'_>) -> Result<Option<CheckParts>, AllocError>
     ensures { IfOk result (λ parts. parts ≡ spec.parts (lent call.now)) }
 {
-    let Some(violation) = call.name(b"violation", ActualForm::Violation)? else {
-        return Ok(None);
-    };
-    let Some(test_signal) = call.name(b"testsignal", ActualForm::Signal)? else {
-        return Ok(None);
-    };
-    let check_enabled = call.truth(b"checkenabled")?;
-    let x_on = call.truth(b"xon")?;
-    let msg_on = call.truth(b"msgon")?;
-    Ok(Some(CheckParts {
-        violation,
-        test_signal,
-        check_enabled,
-        x_on,
-        msg_on,
-    }))
+    match call.name(b"violation", ActualForm::Violation)? {
+        Some(violation) => with_test(call, violation),
+        None => Ok(None),
+    }
 }
 
 /// What a check of two signals has besides.
