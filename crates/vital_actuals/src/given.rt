@@ -156,7 +156,9 @@ fn read_only_boolean(
 {
     match boolean(reader, expr, broken)? {
         Some(value) => {
-            if is_literal(&value, literal) {
+            let is_allowed = is_literal(&value, literal);
+            drop(value);
+            if is_allowed {
                 Ok(Some(Actual::Fixed))
             } else {
                 reader.broken(expr, broken)

@@ -193,18 +193,12 @@ fn path_if_typed(
 ) -> Option<Path>
     ensures { result ≡ (both_by spec.path_typed signal (both_by spec.pair_typed delay condition []).tree []).tree }
 {
-    match signal {
-        Some(signal) => match delay {
-            Some(delay) => match condition {
-                Some(condition) => Some(Path {
-                    signal,
-                    delay,
-                    condition,
-                }),
-                None => None,
-            },
-            None => None,
-        },
+    match signal.zip(delay.zip(condition)) {
+        Some((signal, (delay, condition))) => Some(Path {
+            signal,
+            delay,
+            condition,
+        }),
         None => None,
     }
 }

@@ -67,7 +67,11 @@ fn default_control<'a>(
     let mut broken = Vec::new(reader.alloc);
     let within = reader.in_interface(generic.site);
     match read_generic_default(&within, generic.declaration, &mut broken)? {
-        Some(value) => Ok(control_in(&value)),
+        Some(value) => {
+            let control = control_in(&value);
+            drop(value);
+            Ok(control)
+        }
         None => Ok(None),
     }
 }

@@ -74,9 +74,10 @@ fn length_asked(asked: AskedType) -> usize
 }
 
 /// A kind of variables that keeps no default. A default that is given to one is let go.
-fn without_default(kind: VariableKind, _default: Option<TypedValue>) -> VariableKind
+fn without_default(kind: VariableKind, default: Option<TypedValue>) -> VariableKind
     ensures { result ≡ kind }
 {
+    drop(default);
     kind
 }
 
