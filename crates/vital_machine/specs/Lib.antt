@@ -1,0 +1,10 @@
+pub mod Inputs
+pub mod Slots
+pub mod Seen
+pub mod TruthTables
+pub mod Elements
+pub mod Trees
+pub mod EffectLists
+pub mod Programs
+pub mod Machine
+pub mod Fits
