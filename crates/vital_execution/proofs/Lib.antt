@@ -1,0 +1,5 @@
+mod Rows
+mod TruthLemmas
+mod CheckRows
+mod DelayRows
+mod CellRows
