@@ -1,0 +1,20 @@
+pub mod Rising
+pub mod Least
+pub mod Sends
+pub mod Kept
+pub mod OneRun
+pub mod SomeRun
+pub mod PortNetworks
+pub mod PortCycles
+pub mod PortRuns
+mod DriverNumbers
+mod RowParts
+mod NetworkRows
+mod PortRows
+mod WireRows
+mod BufferParts
+mod PathRows
+mod GlitchRows
+mod GateParts
+mod GateRows
+mod LoopRows
