@@ -17,6 +17,7 @@ mod shelf;
 mod sink;
 mod std_sink;
 mod time;
+mod watch;
 mod write;
 
 pub use breach::{Breach, Breaches, Clause};
@@ -34,4 +35,5 @@ pub use shelf::Shelf;
 pub use sink::Sink;
 pub use std_sink::StdSink;
 pub use time::{GREATEST_TIME, Time, TimeUnit, read_number};
+pub use watch::Watch;
 pub use write::{WriteFault, write_all};

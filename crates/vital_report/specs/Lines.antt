@@ -7,7 +7,7 @@ use Rattle.vital_logic.specs.declared.level.Level.{Level}
 use Rattle.vital_logic.specs.Levels.{byte_of}
 use Rattle.vital_report.specs.Fields.{clause_word}
 use Rattle.vital_report.specs.declared.line.Line.{Line}
-use Rattle.vital_report.specs.declared.line.Line.TheVariants.{Version, Init, Event, End, CellLevel1, CellBroken, Instance, Signal, EndOfDesign, RefusedUsage, RefusedLexical, RefusedSyntax, RefusedLimit, RefusedLibrary, RefusedNetlist, RefusedCell, RefusedStimulus}
+use Rattle.vital_report.specs.declared.line.Line.TheVariants.{Version, Init, Event, Glitch, Violation, End, CellLevel1, CellBroken, Instance, Signal, EndOfDesign, RefusedUsage, RefusedLexical, RefusedSyntax, RefusedLimit, RefusedLibrary, RefusedNetlist, RefusedCell, RefusedDelta, RefusedStimulus}
 use Rattle.vital_report.specs.declared.line.Position.{Position}
 use Rattle.vital_report.specs.declared.line.UsageWhy.{UsageWhy}
 use Rattle.vital_report.specs.declared.line.UsageWhy.TheVariants.{Command, Key, Twice, Value, Missing}
@@ -21,6 +21,9 @@ use Rattle.vital_report.specs.declared.line.LibraryWhy.{LibraryWhy}
 use Rattle.vital_report.specs.declared.line.LibraryWhy.TheVariants.{Duplicate, Entity}
 use Rattle.vital_report.specs.declared.line.NetlistWhy.{NetlistWhy}
 use Rattle.vital_report.specs.declared.line.NetlistWhy.TheVariants as netlist
+use Rattle.vital_timing_checks.specs.declared.violated.CheckKind.{CheckKind}
+use Rattle.vital_timing_checks.specs.declared.violated.CheckKind.TheVariants.{Hold, Period, Pulse, Recovery, Removal, Setup}
+use Rattle.vital_timing_checks.specs.declared.violated.Violated.{Violated}
 
 -- A place as it is printed: the name of its file as bytes, and the line and the column in it; or 0 and 0 for a whole file.
 pub record Spot : Type 0 where
@@ -33,6 +36,8 @@ pub data Said : Type 0 where
   version : Said
   init : (name : List ℕ) (value : Level) → Said
   event : (time delta : ℕ) (name : List ℕ) (value : Level) → Said
+  glitch : (time delta : ℕ) (path port : List ℕ) → Said
+  violation : (time delta : ℕ) (path test : List ℕ) (reference : Option (List ℕ)) (violated : Violated) → Said
   end : (time : ℕ) → Said
   cell_level1 : (entity : List ℕ) (arch : Option (List ℕ)) → Said
   cell_broken : (entity : List ℕ) (arch : Option (List ℕ)) (clause : Clause) (at : Spot) → Said
@@ -46,6 +51,7 @@ pub data Said : Type 0 where
   refused_library : (why : LibraryWhy) (at : Spot) → Said
   refused_netlist : (why : NetlistWhy) (at : Spot) (name : Option (List ℕ)) → Said
   refused_cell : (at : Spot) (clause : Clause) → Said
+  refused_delta : (time limit : ℕ) → Said
   refused_stimulus : (why : StimulusWhy) (file : List ℕ) (line : ℕ) → Said
 
 -- The place of the code.
@@ -57,6 +63,9 @@ abbrev pub said : Line → Said
 said Version = version
 said (Init name value) = init name.now value
 said (Event time delta name value) = event time delta name.now value
+said (Glitch time delta path port) = glitch time delta path.now port.now
+said (Violation time delta path test reference violated) =
+    violation time delta path.now test.now (option_copied reference) violated
 said (End time) = end time
 said (CellLevel1 entity arch) = cell_level1 entity.now (option_map (λ name. name.now) arch)
 said (CellBroken entity arch clause at) = cell_broken entity.now (option_map (λ name. name.now) arch) clause (spot at)
@@ -70,6 +79,7 @@ said (RefusedLimit limit at) = refused_limit limit (spot at)
 said (RefusedLibrary why at) = refused_library why (spot at)
 said (RefusedNetlist why at name) = refused_netlist why (spot at) (option_copied name)
 said (RefusedCell at clause) = refused_cell (spot at) clause
+said (RefusedDelta time limit) = refused_delta time limit
 said (RefusedStimulus why file line) = refused_stimulus why file.now line
 
 -- Is it the line of a cell?
@@ -77,6 +87,12 @@ abbrev pub is_of_cell : Line → Bool
 is_of_cell (CellLevel1 entity arch) = true
 is_of_cell (CellBroken entity arch clause at) = true
 is_of_cell line = false
+
+-- Is it a message of a cell?
+abbrev pub is_message : Line → Bool
+is_message (Glitch time delta path port) = true
+is_message (Violation time delta path test reference violated) = true
+is_message line = false
 
 -- Is it a line of a design?
 abbrev pub is_of_design : Line → Bool
@@ -94,6 +110,7 @@ is_refusal (RefusedLimit limit at) = true
 is_refusal (RefusedLibrary why at) = true
 is_refusal (RefusedNetlist why at name) = true
 is_refusal (RefusedCell at clause) = true
+is_refusal (RefusedDelta time limit) = true
 is_refusal (RefusedStimulus why file line) = true
 is_refusal line = false
 
@@ -110,6 +127,15 @@ usage_word Key = codes "key"
 usage_word Twice = codes "twice"
 usage_word Value = codes "value"
 usage_word Missing = codes "missing"
+
+-- What a timing check tests, in a word.
+abbrev pub kind_word : CheckKind → List ℕ
+kind_word Setup = codes "setup"
+kind_word Hold = codes "hold"
+kind_word Recovery = codes "recovery"
+kind_word Removal = codes "removal"
+kind_word Period = codes "period"
+kind_word Pulse = codes "pulse"
 
 -- Why a stimulus file is refused, in a word.
 abbrev pub stimulus_word : StimulusWhy → List ℕ
@@ -195,6 +221,11 @@ bytes_of version = line_of (codes "vital") (decimal 1 ∷ [])
 bytes_of (init name value) = line_of (codes "init") (name ∷ (byte_of value ∷ []) ∷ [])
 bytes_of (event time delta name value) =
     line_of (codes "event") (decimal time ∷ decimal delta ∷ name ∷ (byte_of value ∷ []) ∷ [])
+bytes_of (glitch time delta path port) = line_of (codes "glitch") (decimal time ∷ decimal delta ∷ path ∷ port ∷ [])
+bytes_of (violation time delta path test reference v) =
+    line_of (codes "violation") (
+    kind_word v.kind ∷ decimal time ∷ decimal delta ∷ path ∷ test ∷ name_word reference ∷ decimal v.observed ∷ decimal v.limit ∷ []
+    )
 bytes_of (end time) = line_of (codes "end") (decimal time ∷ [])
 bytes_of (cell_level1 entity arch) = line_of (codes "cell") (entity ∷ name_word arch ∷ codes "level1" ∷ [])
 bytes_of (cell_broken entity arch clause at) =
@@ -209,5 +240,10 @@ bytes_of (refused_limit limit at) = line_of (codes "refused limit") (limit_word 
 bytes_of (refused_library why at) = line_of (codes "refused library") (library_word why ∷ spot_fields at)
 bytes_of (refused_netlist why at name) = line_of (codes "refused netlist") (netlist_word why ∷ spot_fields at ++ name_word name ∷ [])
 bytes_of (refused_cell at clause) = line_of (codes "refused netlist") (codes "not-level1" ∷ spot_fields at ++ clause_word clause ∷ [])
+bytes_of (refused_delta time limit) = line_of (codes "refused delta") (decimal time ∷ decimal limit ∷ [])
 bytes_of (refused_stimulus why file line) =
     line_of (codes "refused stimulus") (stimulus_word why ∷ file ∷ decimal line ∷ [])
+
+-- The bytes of lines, one after the other.
+abbrev pub text_of : List Said → List ℕ
+text_of lines = flat_map bytes_of lines

@@ -1,7 +1,9 @@
 -- A reporter, which writes lines to a sink, and a printer, which keeps both.
-use Rattle.std.specs.Prelude.{ℕ, ◌≤◌, Bool, true, false, ◌≡◌, ◌++◌, ◌⊎◌, List, Result, Ok, Err}
+use Rattle.std.specs.Prelude.{ℕ, ◌≤◌, Bool, true, false, ◌≡◌, ◌++◌, ◌⊎◌, List, take, Result, Ok, Err}
 use Rattle.vital_base.specs.Faults.{Rose}
 use Rattle.vital_base.specs.Sinks.{Told, appended, AppendsPrefix}
+use Rattle.vital_report.specs.declared.print_error.PrintError.{PrintError}
+use Rattle.vital_report.specs.declared.print_error.PrintError.TheVariants as error
 
 -- A reporter: the bytes that it holds and has still to write, and whether it has stopped.
 pub record ReporterState : Type 0 where
@@ -44,3 +46,9 @@ pub record Stopped (text : List ℕ) (old new : PrinterState) : Type 0 where
 abbrev pub Prints : {T E : Type 0} → Result T E → List ℕ → PrinterState → PrinterState → Type 0
 Prints (Ok x) text old new = Printed text old new
 Prints (Err e) text old new = Stopped text old new
+
+-- A call that prints a part of a run prints its text; or a prefix of that, where writing or memory failed.
+abbrev pub PrintsPart : {T : Type 0} → Result T PrintError → List ℕ → PrinterState → PrinterState → Type 0
+PrintsPart (Ok x) text old new = Printed text old new
+PrintsPart (Err error.WriteFault) text old new = Stopped text old new
+PrintsPart (Err error.NoMemory) text old new = (count : ℕ) × Printed (take count text) old new

@@ -3,6 +3,7 @@ ghost use Rattle.vital_report.specs.Lines.{usage_word, stimulus_word, lexical_wo
 
 use vital_base::{Clause, Name, Time};
 use vital_logic::Level;
+use vital_timing_checks::Violated;
 
 /// One line that is printed. It holds its names by reference, so making one takes no memory.
 #[derive(Clone, Copy)]
@@ -20,6 +21,24 @@ pub enum Line<'a> {
         delta: u64,
         name: &'a Name,
         value: Level,
+    },
+    /// `glitch TIME DELTA PATH PORT`: a path delay of an instance of a cell found a glitch at one of its ports (IEEE 1076.4). The path of the
+    /// top is `-`.
+    Glitch {
+        time: Time,
+        delta: u64,
+        path: &'a [u8],
+        port: &'a [u8],
+    },
+    /// `violation KIND TIME DELTA PATH TEST REFERENCE OBSERVED LIMIT`: a timing check of an instance of a cell found a violation (IEEE
+    /// 1076.4): of the signal TEST, against the signal REFERENCE, which is `-` where it is tested alone. The path of the top is `-`.
+    Violation {
+        time: Time,
+        delta: u64,
+        path: &'a [u8],
+        test: &'a [u8],
+        reference: Option<&'a [u8]>,
+        violated: Violated,
     },
     /// `end TIME`, the last line of a run: its end time.
     End {
@@ -91,6 +110,11 @@ pub enum Line<'a> {
     RefusedCell {
         at: Position<'a>,
         clause: Clause,
+    },
+    /// `refused delta TIME LIMIT`: at this time a cycle would begin whose delta number is the limit.
+    RefusedDelta {
+        time: Time,
+        limit: u64,
     },
     /// `refused stimulus WHY FILE LINE`: a line of a stimulus file, counted from 1, is at fault.
     RefusedStimulus {

@@ -4,13 +4,14 @@ ghost use Rattle.std.specs.Prelude.{◌≡◌, ◌≤◌, true, codes, None, OnO
 ghost use Rattle.std.specs.Option.{option_copied};
 ghost use Rattle.vital_base.specs.Faults.{Rose};
 ghost use Rattle.vital_base.specs.Sinks.{appended, AppendsPrefix};
-ghost use Rattle.vital_report.specs.Lines.{said, is_of_cell, is_of_design, is_refusal, is_refused_design, level_word, name_word, type_word, unit_word, bytes_of, line_of};
+ghost use Rattle.vital_report.specs.Lines.{said, is_message, is_of_cell, is_of_design, is_refusal, is_refused_design, kind_word, level_word, name_word, type_word, unit_word, bytes_of, line_of};
 
 use crate::buffer::put_line;
 use crate::fields::{Field, Fields};
 use crate::line::{Line, Position};
 use crate::long_line::write_line;
 use vital_base::{Clause, Name, Sink, WriteFault, write_all};
+use vital_timing_checks::CheckKind;
 
 /// Writes the line.
 pub(crate) fn write<K: Sink>(
@@ -42,12 +43,65 @@ pub(crate) fn write<K: Sink>(
             let fields = (Field(time), (Field(delta), (text(name), Field(value))));
             write_fields(buffer, sink, b"event", &fields)
         }
+        Line::Glitch { .. } | Line::Violation { .. } => write_message(buffer, sink, line),
         Line::End { time } => write_fields(buffer, sink, b"end", &Field(time)),
         Line::CellLevel1 { .. } | Line::CellBroken { .. } => write_cell(buffer, sink, line),
         Line::Instance { .. } | Line::Signal { .. } | Line::EndOfDesign => {
             write_design(buffer, sink, line)
         }
         _ => write_refusal(buffer, sink, line),
+    }
+}
+
+/// Writes the message of a cell.
+fn write_message<K: Sink>(
+    buffer: &mut [u8],
+    sink: &mut K,
+    line: &Line<'_>,
+) -> Result<(), WriteFault>
+    requires { is_message line.now ≡ true }
+    ensures keeps_may_stick { K.may_stick sink.old → K.may_stick sink.new }
+    ensures never_falls { K.faults sink.old ≤ K.faults sink.new }
+
+    ensures ok_leaves_count { OnOk result (K.faults sink.new ≡ K.faults sink.old) }
+    ensures ok_appends { OnOk result (K.told sink.new ≡ appended (K.told sink.old) (bytes_of (said line.now))) }
+
+    ensures fault_rose { OnErr result (Rose (K.faults sink.old) (K.faults sink.new)) }
+    ensures fault_appends_prefix { OnErr result (AppendsPrefix (K.told sink.old)
+        (bytes_of (said line.now)) (K.told sink.new)) }
+{
+    match *line {
+        Line::Glitch {
+            time,
+            delta,
+            path,
+            port,
+        } => {
+            let fields = (Field(time), (Field(delta), (fixed(path), fixed(port))));
+            write_fields(buffer, sink, b"glitch", &fields)
+        }
+        Line::Violation {
+            time,
+            delta,
+            path,
+            test,
+            reference,
+            violated,
+        } => {
+            let limits = (Field(violated.observed), Field(violated.limit));
+            let fields = (
+                kind_text(violated.kind),
+                (
+                    Field(time),
+                    (
+                        Field(delta),
+                        (fixed(path), (fixed(test), (name_text(reference), limits))),
+                    ),
+                ),
+            );
+            write_fields(buffer, sink, b"violation", &fields)
+        }
+        _ => unreachable!(),
     }
 }
 
@@ -149,6 +203,9 @@ fn write_refusal<K: Sink>(
         }
         Line::RefusedLibrary { why, at } => {
             write_fields(buffer, sink, b"refused library", &(fixed(why.word()), at))
+        }
+        Line::RefusedDelta { time, limit } => {
+            write_fields(buffer, sink, b"refused delta", &(Field(time), Field(limit)))
         }
         Line::RefusedStimulus { why, file, line } => {
             let fields = (fixed(why.word()), (text(file), number(line)));
@@ -263,6 +320,20 @@ fn name_text<'a>(name: Option<&'a [u8]>) -> Field<&'a [u8]>
     match name {
         Some(name) => fixed(name),
         None => no_name(),
+    }
+}
+
+/// The word for what a timing check tests.
+fn kind_text<'a>(kind: CheckKind) -> Field<&'a [u8]>
+    ensures { result.0.now ≡ kind_word kind }
+{
+    match kind {
+        CheckKind::Setup => fixed(b"setup"),
+        CheckKind::Hold => fixed(b"hold"),
+        CheckKind::Recovery => fixed(b"recovery"),
+        CheckKind::Removal => fixed(b"removal"),
+        CheckKind::Period => fixed(b"period"),
+        CheckKind::Pulse => fixed(b"pulse"),
     }
 }
 

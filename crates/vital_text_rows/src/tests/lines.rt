@@ -322,3 +322,21 @@ fn a_printer_prints_after_what_its_sink_got(rt: HostRuntime) -> Result<(), Fail>
     }
     Ok(())
 }
+
+#[test]
+fn lines_of_simulations_are_printed(rt: HostRuntime) -> Result<(), Fail> {
+    let alloc = rt.alloc();
+    let glitch = Line::Glitch {
+        time: 10_400_000,
+        delta: 1,
+        path: b"-",
+        port: b"y",
+    };
+    assert!(rt; is_printed(alloc, &glitch, "glitch 10400000 1 - y\n")?);
+    let delta = Line::RefusedDelta {
+        time: 1_000_000,
+        limit: 10,
+    };
+    assert!(rt; is_printed(alloc, &delta, "refused delta 1000000 10\n")?);
+    Ok(())
+}

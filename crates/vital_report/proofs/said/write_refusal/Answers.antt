@@ -33,3 +33,9 @@ returns-in-RefusedStimulus-clause-ok_appends g c = rw c.in-RefusedStimulus.is (r
 
 pub returns-in-RefusedStimulus-clause-fault_appends_prefix : goal.returns-in-RefusedStimulus-clause-fault_appends_prefix
 returns-in-RefusedStimulus-clause-fault_appends_prefix g c = rw c.in-RefusedStimulus.is (rw (sym (c.fixed-in-RefusedStimulus.ensures ∙ c.word-in-RefusedStimulus.ensures)) (rw (sym c.text.ensures) (rw (sym c.number.ensures) c.write_fields-in-RefusedStimulus.ensures.fault_appends_prefix)))
+
+pub returns-in-RefusedDelta-clause-ok_appends : goal.returns-in-RefusedDelta-clause-ok_appends
+returns-in-RefusedDelta-clause-ok_appends g c = rw c.in-RefusedDelta.is c.write_fields-in-RefusedDelta.ensures.ok_appends
+
+pub returns-in-RefusedDelta-clause-fault_appends_prefix : goal.returns-in-RefusedDelta-clause-fault_appends_prefix
+returns-in-RefusedDelta-clause-fault_appends_prefix g c = rw c.in-RefusedDelta.is c.write_fields-in-RefusedDelta.ensures.fault_appends_prefix
