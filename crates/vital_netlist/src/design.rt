@@ -106,7 +106,8 @@ impl<'a> Design<'a> {
 
     /// For each instance of a cell, in order, the signals of its bits: those of its ports, and then those of its internal signals.
     pub fn wiring(&self) -> &[List<usize>]
-        ensures { result.now ≡ self.now.wiring }
+        ensures wiring { result.now ≡ self.now.wiring }
+        ensures sound { IsSoundDesign self.now }
     {
         &self.wiring
     }

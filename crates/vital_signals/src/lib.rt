@@ -6,5 +6,6 @@ mod signal;
 mod signals;
 mod sources;
 
+pub use numbers::Numbers;
 pub use signal::Signal;
 pub use signals::{Signals, assignments_keep_values};

@@ -5,7 +5,7 @@ ghost use Rattle.std.specs.List.Sorted.{IsStrictlyIncreasing};
 use std::alloc::{AllocError, Global};
 use std::marker::Model;
 
-/// Numbers of signals.
+/// A list of numbers with room for so many.
 #[derive(Drop)]
 pub struct Numbers {
     numbers: Vec<u32>,
