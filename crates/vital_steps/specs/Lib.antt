@@ -1,0 +1,10 @@
+pub mod Named
+pub mod Worths
+pub mod Scopes
+pub mod Kinds
+pub mod Sound
+pub mod StandsFor
+pub mod Steps
+pub mod Values
+pub mod Formed
+pub mod Laws
