@@ -1,0 +1,14 @@
+pub mod SoundLemmas
+pub mod WiderLemmas
+pub mod ListLemmas
+pub mod BitLemmas
+pub mod ConstantLemmas
+pub mod ValueLemmas
+pub mod StatementLemmas
+pub mod ShortLemmas
+pub mod ProcessLemmas
+pub mod NumberLemmas
+pub mod CompiledLemmas
+pub mod ScopeLemmas
+pub mod PutLemmas
+pub mod StepLemmas
