@@ -1,0 +1,19 @@
+use Rattle.std.proofs.Common.{List, [], map, refl, sym, ap, subst, arith}
+use Rattle.std.proofs.lemmas.List.Elements.{All-nil}
+use Rattle.vital_network.specs.Alike.{AreAlike, IsAlike}
+use Rattle.vital_network.specs.Networks.{lent_cell}
+use Rattle.vital_network.specs.Soundness.{IsSoundNetwork}
+use Rattle.vital_network.specs.declared.network.NetCell.{NetCell}
+use Rattle.vital_network.proofs.SoundNetworks.{ports-made, ports-sound}
+use Rattle.vital_network.proofs.network.Network.of_ports.Goals as goal
+
+pub invariant_of-result : goal.invariant_of-result
+invariant_of-result c =
+    let ports = c.args.ports.now in
+    let few = c.in_ok-first_behind.ensures.few in (
+      subst IsSoundNetwork
+          (sym (ports-made ports c.in_ok-port_signals.field-0.items c.in_ok-port_drivers.field-0.items [] (map lent_cell c.new.result.items)
+          c.in_ok-port_signals.ensures c.in_ok-port_drivers.ensures refl (ap (λ (cells : List NetCell). map lent_cell cells) c.new.ensures.items)))
+          (ports-sound ports (omega (arith, few))),
+      subst AreAlike (sym c.new.ensures.items) (All-nil (IsAlike [])),
+    )
