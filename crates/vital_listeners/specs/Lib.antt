@@ -1,0 +1,3 @@
+pub mod Triggered
+pub mod Sensitivities
+pub mod Lists
