@@ -1,0 +1,8 @@
+mod Rows
+pub mod ListLemmas
+pub mod InputLemmas
+pub mod PlaceLemmas
+pub mod RunLemmas
+pub mod FoundLemmas
+pub mod StartLemmas
+pub mod KeptLemmas

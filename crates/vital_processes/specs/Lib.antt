@@ -1,0 +1,5 @@
+pub mod Processes
+pub mod Programs
+pub mod Places
+pub mod Instances
+pub mod Kept
