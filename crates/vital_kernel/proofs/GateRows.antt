@@ -10,14 +10,15 @@ use Rattle.vital_stim.specs.declared.stimuli.StimLine.{StimLine}
 use Rattle.vital_timing.specs.declared.delay.Delay.TheVariants as delay
 use Rattle.vital_worths.proofs.TreeLemmas.{level-logical, level-signal}
 use Rattle.vital_kernel.specs.Cycles.{Event, Glitch, Happening, initial_run}
-use Rattle.vital_kernel.specs.DesignNetworks.{network}
-use Rattle.vital_kernel.specs.Lines.{event, glitch, init, run_lines}
-use Rattle.vital_kernel.specs.Networks.{Network}
+use Rattle.vital_network.specs.DesignNetworks.{network}
+use Rattle.vital_kernel.specs.Lines.{run_lines}
+use Rattle.vital_report.specs.Lines.{event, glitch, init}
+use Rattle.vital_network.specs.Networks.{Network}
 use Rattle.vital_kernel.specs.Runs.{Ended, IsRun, cycle, ended, ends, goes_on, step}
 use Rattle.vital_kernel.specs.States.{State}
 use Rattle.vital_signals.specs.declared.signal.Signal.{Signal}
 use Rattle.vital_signals.specs.Events.{quiet_signal}
-use Rattle.vital_kernel.specs.declared.watch.Watch.TheVariants.{All}
+use Rattle.vital_base.specs.declared.watch.Watch.TheVariants.{All}
 use Rattle.vital_kernel.proofs.BufferParts.{at, driver, kept, since, truth-literal}
 use Rattle.vital_kernel.proofs.GateParts.{gate, variables_of}
 use Rattle.vital_kernel.proofs.RowParts.{drives, input_port, line, net, top_cell}

@@ -4,14 +4,14 @@ use Rattle.std.specs.List.{fold}
 use Rattle.vital_agenda.specs.Agendas.{idle_driver}
 use Rattle.vital_agenda.specs.Driver.{AllRise, Driver, advance}
 use Rattle.vital_base.specs.declared.kind.Kind.TheVariants.{Transport}
-use Rattle.vital_execution.specs.Execution.{exec}
 use Rattle.vital_machine.specs.declared.effect.Effect.{Effect}
 use Rattle.vital_machine.specs.declared.effect.Effect.TheVariants as effect
 use Rattle.vital_netlist.specs.declared.design_lists.DesignDriver.{DesignDriver}
 use Rattle.vital_stim.specs.declared.stimuli.StimLine.{StimLine}
 use Rattle.vital_kernel.specs.Cycles.{Part, activated, after_stimuli, all_activated, cycle_at, driver_of_port, first_drivers, initial_run, is_sensitive_to, new_values, sent, stimulated, updated}
-use Rattle.vital_kernel.specs.Networks.{NetProcess, Network, all_drivers, processes}
-use Rattle.vital_kernel.specs.States.{State, inputs, slots_of}
+use Rattle.vital_network.specs.Networks.{NetProcess, Network, all_drivers, processes}
+use Rattle.vital_kernel.specs.States.{State}
+use Rattle.vital_processes.specs.Processes.{done_by}
 use Rattle.vital_kernel.proofs.Least.{all_rise_after, all_rise_lower}
 use Rattle.vital_kernel.proofs.Sends.{sent_rise}
 
@@ -31,7 +31,7 @@ pub record Keeps (now delta : ℕ) (part : Part) : Type 0 where
 
 -- the effects of a process that runs
 abbrev done : Part → NetProcess → List Effect
-done part p = (exec p.cell.tree p.cell.delays p.number part.state.now (inputs part.state p) (slots_of part.state p)).effects
+done part p = (done_by part.state.now part.state.signals part.state.variables p).effects
 
 activated_keeps : (now delta : ℕ) (part : Part) (p : NetProcess) → Keeps now delta part → Keeps now delta (activated part p)
 activated_keeps now delta part p h =

@@ -7,7 +7,6 @@ pub mod SomeRun
 pub mod PortNetworks
 pub mod PortCycles
 pub mod PortRuns
-mod DriverNumbers
 mod RowParts
 mod NetworkRows
 mod PortRows
@@ -18,3 +17,18 @@ mod GlitchRows
 mod GateParts
 mod GateRows
 mod LoopRows
+mod Texts
+mod Activations
+mod Cells
+mod Picked
+mod EventLemmas
+mod Keeping
+mod StimulusLemmas
+mod Steps
+mod RunLemmas
+mod CycleLemmas
+mod NameLemmas
+mod KernelLemmas
+mod Activating
+mod EffectLemmas
+mod FirstLemmas

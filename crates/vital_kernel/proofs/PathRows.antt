@@ -9,14 +9,15 @@ use Rattle.vital_stim.specs.declared.stimuli.StimLine.{StimLine}
 use Rattle.vital_timing.specs.declared.glitch_mode.GlitchMode.TheVariants.{OnEvent}
 use Rattle.vital_worths.proofs.TreeLemmas.{level-signal}
 use Rattle.vital_kernel.specs.Cycles.{Event, Glitch, Happening, initial_run}
-use Rattle.vital_kernel.specs.DesignNetworks.{network}
-use Rattle.vital_kernel.specs.Lines.{event, glitch, init, run_lines}
-use Rattle.vital_kernel.specs.Networks.{Network}
+use Rattle.vital_network.specs.DesignNetworks.{network}
+use Rattle.vital_kernel.specs.Lines.{run_lines}
+use Rattle.vital_report.specs.Lines.{event, glitch, init}
+use Rattle.vital_network.specs.Networks.{Network}
 use Rattle.vital_kernel.specs.Runs.{Ended, IsRun, cycle, ended, ends, goes_on, step}
 use Rattle.vital_kernel.specs.States.{State}
 use Rattle.vital_signals.specs.declared.signal.Signal.{Signal}
 use Rattle.vital_signals.specs.Events.{quiet_signal}
-use Rattle.vital_kernel.specs.declared.watch.Watch.TheVariants.{All, Ports}
+use Rattle.vital_base.specs.declared.watch.Watch.TheVariants.{All, Ports}
 use Rattle.vital_kernel.proofs.BufferParts.{at, buffer, delays_of, driver, kept, since, truth-literal, variables_of}
 use Rattle.vital_kernel.proofs.RowParts.{drives, input_port, line, net, top_cell}
 

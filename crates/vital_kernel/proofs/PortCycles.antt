@@ -12,15 +12,16 @@ use Rattle.vital_logic.specs.Levels.{byte_of}
 use Rattle.vital_logic.specs.declared.level.Level.{Level}
 use Rattle.vital_kernel.specs.Cycles.{Part, all_activated, cycle_at, event_at, is_sensitive_to, new_values, updated, values_at}
 use Rattle.vital_signals.specs.Events.{new_value}
-use Rattle.vital_kernel.specs.Lines.{RunLine, event, lines_of}
-use Rattle.vital_kernel.specs.Networks.{NetCell, NetProcess, Network, processes, processes_of}
+use Rattle.vital_kernel.specs.Lines.{lines_of}
+use Rattle.vital_report.specs.Lines.{Said, event}
+use Rattle.vital_network.specs.Networks.{NetCell, NetProcess, Network, processes, processes_of}
 use Rattle.vital_kernel.specs.PortRuns.{due, port_cycles, port_events}
 use Rattle.vital_kernel.specs.Runs.{Ended, IsRunFrom, Run, behind, cycle, delta_at, ends, goes_on, step, step_at}
 use Rattle.vital_kernel.specs.States.{State}
 use Rattle.vital_signals.specs.declared.signal.Signal.{Signal}
 use Rattle.vital_signals.specs.Events.{with_value}
 use Rattle.vital_kernel.proofs.Least.{all_rise_after, all_rise_lower, all_rise_next, fewer_pending, next_is_above}
-use Rattle.vital_kernel.specs.PortNetworks.{port_signal}
+use Rattle.vital_network.specs.PortNetworks.{port_signal}
 use Rattle.vital_kernel.proofs.PortNetworks.{IsPortNet, signal_at, values_are}
 
 -- ---- signals have the values of their drivers
@@ -68,7 +69,7 @@ events_are n time delta k (p ∷ ps) (s ∷ ss) (d ∷ ds) at same len =
     let later = events_are n time delta (k + 1) ps ss ds (λ j. subst (λ (i : ℕ). slice_get n.signals i ≡ option_map port_signal (slice_get ps j)) (shift k j) (at (suc j))) others (omega (arith, len)) in
     elim (cases_Bool (same_level d.current value)) [
       | inl stays ↦ rw (here, stays) later
-      | inr new ↦ rw (here, new, signal) (ap (λ (rest : List RunLine). event time delta p.name value ∷ rest) later)
+      | inr new ↦ rw (here, new, signal) (ap (λ (rest : List Said). event time delta p.name value ∷ rest) later)
     ]
   where
     shift : (k j : ℕ) → k + suc j ≡ (k + 1) + j
@@ -120,7 +121,7 @@ at_after n ports time delta s h at next =
 
 -- ---- all cycles
 
-due_is_next : (until time : ℕ) (o : Option ℕ) → option_and_then (λ t. cond (leb t until) (Some t) None) o ≡ Some time → o ≡ Some time
+pub due_is_next : (until time : ℕ) (o : Option ℕ) → option_and_then (λ t. cond (leb t until) (Some t) None) o ≡ Some time → o ≡ Some time
 due_is_next until time None e = absurd cc
 due_is_next until time (Some t) e =
     elim (cases_Bool (leb t until)) [
@@ -140,12 +141,12 @@ first_of_time : (s : State) (time : ℕ) → (s.delta ≡ 0) ⊎ AllRise (s.now 
 first_of_time s time (inl zeroth) next same = zeroth
 first_of_time s time (inr later) next same = absurd (omega (arith, same, next_is_above (s.now + 1) time s.drivers later next))
 
-cycles_end : (most : ℕ) (ports : List PortBit) (until now delta : ℕ) (ds : List Driver) → due until ds ≡ None → port_cycles most ports until now delta ds ≡ []
+pub cycles_end : (most : ℕ) (ports : List PortBit) (until now delta : ℕ) (ds : List Driver) → due until ds ≡ None → port_cycles most ports until now delta ds ≡ []
 cycles_end zero ports until now delta ds e = refl
 cycles_end (suc most) ports until now delta ds e = rw e refl
 
 -- a run of ports from a state on
-pub record PortsRun (n : Network) (ports : List PortBit) (until limit : ℕ) (s : State) (lines : List RunLine) : Type 0 where
+pub record PortsRun (n : Network) (ports : List PortBit) (until limit : ℕ) (s : State) (lines : List Said) : Type 0 where
   pub run : Run
   pub is : IsRunFrom n until limit s run
   pub ends : run.end ≡ Ended
@@ -174,7 +175,7 @@ one_more : (most : ℕ) (ports : List PortBit) (until time now delta : ℕ) (ds 
     → port_cycles (suc most) ports until now delta ds ≡ port_events time (delta_at time now delta) ports ds ++ port_cycles most ports until time (delta_at time now delta) (map (advance time) ds)
 one_more most ports until time now delta ds e =
     let rest = λ (t : ℕ). port_events t (delta_at t now delta) ports ds ++ port_cycles most ports until t (delta_at t now delta) (map (advance t) ds) in
-    let none : List RunLine = [] in
+    let none : List Said = [] in
     ap (λ (o : Option ℕ). option_map_or rest o none) e
 
 -- the cycles of ports are the run of their signals
@@ -201,8 +202,8 @@ ports_run (suc most) n ports until limit s more h at enough =
             ends = later.ends;
             told =
                 flat_map-append (lines_of n) part.happened later.run.happened
-                ∙ ap (λ (front : List RunLine). front ++ flat_map (lines_of n) later.run.happened) (told_are n ports time delta s h at)
-                ∙ ap (λ (back : List RunLine). port_events time delta ports s.drivers ++ back) later.told
+                ∙ ap (λ (front : List Said). front ++ flat_map (lines_of n) later.run.happened) (told_are n ports time delta s h at)
+                ∙ ap (λ (back : List Said). port_events time delta ports s.drivers ++ back) later.told
                 ∙ sym (one_more most ports until time s.now s.delta s.drivers p.1);
           }
     ]

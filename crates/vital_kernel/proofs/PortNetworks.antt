@@ -10,11 +10,12 @@ use Rattle.vital_base.specs.declared.ports.PortBit.{PortBit}
 use Rattle.vital_logic.specs.declared.level.Level.{Level}
 use Rattle.vital_netlist.specs.declared.design_lists.DesignDriver.{DesignDriver}
 use Rattle.vital_stim.specs.declared.stimuli.StimLine.{StimLine}
-use Rattle.vital_kernel.specs.DesignNetworks.{initial_level, is_stimulated, signal_of, stimulus_driver, stimulus_drivers}
-use Rattle.vital_kernel.specs.Networks.{NetSignal, Network, all_drivers}
-use Rattle.vital_kernel.specs.PortNetworks.{IsOfDesign, port_design, port_network, port_signal, signal_in_design}
+use Rattle.vital_network.specs.DesignNetworks.{initial_level, is_stimulated, signal_of, stimulus_driver, stimulus_drivers}
+use Rattle.vital_network.specs.Networks.{Network, all_drivers}
+use Rattle.vital_network.specs.declared.network.NetSignal.{NetSignal}
+use Rattle.vital_network.specs.PortNetworks.{IsOfDesign, port_design, port_network, port_signal, signal_in_design}
 use Rattle.vital_kernel.specs.States.{values}
-use Rattle.vital_kernel.specs.declared.watch.Watch.TheVariants.{All}
+use Rattle.vital_base.specs.declared.watch.Watch.TheVariants.{All}
 use Rattle.vital_signals.specs.Values.{driven}
 
 pub record IsPortNet (n : Network) (ports : List PortBit) : Type 0 where

@@ -6,12 +6,13 @@ use Rattle.vital_base.specs.declared.ports.PortBit.{PortBit}
 use Rattle.vital_logic.specs.declared.level.Level.{Level}
 use Rattle.vital_logic.specs.declared.level.Level.TheVariants.{U, Zero, One, Z}
 use Rattle.vital_stim.specs.declared.stimuli.StimLine.{StimLine}
-use Rattle.vital_kernel.specs.DesignNetworks.{network}
-use Rattle.vital_kernel.specs.Lines.{RunLine, event, init, run_lines}
-use Rattle.vital_kernel.specs.Networks.{Network}
-use Rattle.vital_kernel.specs.PortNetworks.{port_design}
+use Rattle.vital_network.specs.DesignNetworks.{network}
+use Rattle.vital_kernel.specs.Lines.{run_lines}
+use Rattle.vital_report.specs.Lines.{Said, event, init}
+use Rattle.vital_network.specs.Networks.{Network}
+use Rattle.vital_network.specs.PortNetworks.{port_design}
 use Rattle.vital_kernel.specs.Runs.{End, Ended, Run, whole_run}
-use Rattle.vital_kernel.specs.declared.watch.Watch.TheVariants.{All}
+use Rattle.vital_base.specs.declared.watch.Watch.TheVariants.{All}
 
 -- Inputs a and b; they begin as U, and as 0 by the default of b.
 abbrev ports : List PortBit
@@ -21,7 +22,7 @@ abbrev line : ℕ → ℕ → Level → StimLine
 line time number value = record { time = time; port = number; value = value }
 
 abbrev Told : Type 0
-Told = List RunLine × End
+Told = List Said × End
 
 -- The lines of a run, and its end.
 abbrev told : Network → Run → Told
@@ -31,7 +32,7 @@ told n r = (run_lines n r.happened, r.end)
 abbrev played : List StimLine → ℕ → Option Told
 played lines until = let n = network (port_design ports) [] lines All in option_map (told n) (whole_run n lines until 1_000)
 
-abbrev told_then : List RunLine → Option Told
+abbrev told_then : List Said → Option Told
 told_then events = Some (init (codes "a") U ∷ init (codes "b") Zero ∷ events, Ended)
 
 -- At 20,000 b gets the value that it has, and at 30,000 the run has ended.

@@ -1,8 +1,8 @@
 -- The run of ports alone is that of their drivers.
-use Rattle.std.proofs.Common.{◌≡◌, ℕ, zero, suc, ◌+◌, ◌<◌, List, [], ◌∷◌, ◌++◌, length, map, refl, sym, ap, subst, ◌∙◌, arith, inl}
-use Rattle.std.specs.Prelude.{All, ◌==◌}
+use Rattle.std.proofs.Common.{◌≡◌, ℕ, zero, suc, ◌+◌, ◌<◌, ◌≤◌, List, [], ◌∷◌, ◌++◌, length, map, refl, sym, ap, subst, ◌∙◌, arith, inl, inr}
+use Rattle.std.specs.Prelude.{◌==◌}
 use Rattle.std.specs.List.{enumerate_from, flat_map, fold, position_or_len, zip}
-use Rattle.std.proofs.lemmas.Bool.{eq-eqb, ne_eqb}
+use Rattle.std.proofs.lemmas.Bool.{cases_lt, eq-eqb, ne_eqb}
 use Rattle.std.proofs.lemmas.List.{length-map}
 use Rattle.vital_agenda.specs.Agendas.{changed, idle_driver}
 use Rattle.vital_agenda.specs.Driver.{AllRise, Driver, currents, pending_count, send}
@@ -13,10 +13,12 @@ use Rattle.vital_logic.specs.declared.level.Level.{Level}
 use Rattle.vital_netlist.specs.declared.design_lists.DesignDriver.{DesignDriver}
 use Rattle.vital_stim.specs.declared.stimuli.StimLine.{StimLine}
 use Rattle.vital_kernel.specs.Cycles.{after_stimuli, Part, all_activated, driver_of_port, first_drivers, initial_run, stimulated}
-use Rattle.vital_kernel.specs.DesignNetworks.{stimulus_driver}
-use Rattle.vital_kernel.specs.Lines.{RunLine, init, init_line, init_lines, lines_of}
-use Rattle.vital_kernel.specs.Networks.{NetCell, NetProcess, NetSignal, Network, processes, processes_of}
-use Rattle.vital_kernel.specs.PortNetworks.{port_network, port_signal}
+use Rattle.vital_network.specs.DesignNetworks.{stimulus_driver}
+use Rattle.vital_kernel.specs.Lines.{init_line, init_lines, lines_of}
+use Rattle.vital_report.specs.Lines.{Said, init}
+use Rattle.vital_network.specs.Networks.{NetCell, NetProcess, Network, processes, processes_of}
+use Rattle.vital_network.specs.declared.network.NetSignal.{NetSignal}
+use Rattle.vital_network.specs.PortNetworks.{port_network, port_signal}
 use Rattle.vital_kernel.specs.PortRuns.{IsPortRun, idle_drivers, port_events_until, port_inits, sent_to}
 use Rattle.vital_kernel.specs.Runs.{IsRunFrom, Run, behind}
 use Rattle.vital_kernel.specs.States.{values}
@@ -51,29 +53,61 @@ driver_is n ports j h lt =
     ap (position_or_len (λ (d : DesignDriver). d.signal == j)) h.drivers
     ∙ subst (λ (i : ℕ). position_or_len (λ d. d.signal == i) (map stimulus_driver (enumerate_from 0 ports)) ≡ j) from_zero (number_is 0 ports j lt)
 
-sent_are : (n : Network) (ports : List PortBit) (lines : List StimLine) (ds : List Driver) → IsPortNet n ports → All (λ line. line.port < length ports) lines → fold (stimulated n) ds lines ≡ sent_to lines ds
-sent_are n ports [] ds h there = refl
-sent_are n ports (line ∷ lines) ds h there =
-    let here : stimulated n ds line ≡ changed line.port (send 0 Transport line.value line.time) ds =
-    ap (λ (j : ℕ). changed j (send 0 Transport line.value line.time) ds) (driver_is n ports line.port h (there 0 line (omega arith))) in
-    ap (λ (drivers : List Driver). fold (stimulated n) drivers lines) here ∙ sent_are n ports lines (changed line.port (send 0 Transport line.value line.time) ds) h (λ k d lt. there (suc k) d (omega (arith, lt)))
+-- that of a port that isn't there has the number behind all
+number_behind : (k : ℕ) (ps : List PortBit) (j : ℕ) → length ps ≤ j → position_or_len (λ d. d.signal == k + j) (map stimulus_driver (enumerate_from k ps)) ≡ length ps
+number_behind k [] j le = refl
+number_behind k (p ∷ ps) zero le = absurd (omega (arith, le))
+number_behind k (p ∷ ps) (suc j) le =
+    let later = number_behind (k + 1) ps j (omega (arith, le)) in
+    let shift : (k + 1) + j ≡ k + suc j = omega arith in
+    let here = subst (λ (i : ℕ). position_or_len (λ d. d.signal == i) (map stimulus_driver (enumerate_from (k + 1) ps)) ≡ length ps) shift later in
+    rw (ne_eqb k (k + suc j) (omega arith), here) (omega arith)
 
-length-changed : (j : ℕ) (f : Driver → Driver) (ds : List Driver) → length (changed j f ds) ≡ length ds
+driver_behind : (n : Network) (ports : List PortBit) (j : ℕ) → IsPortNet n ports → length ports ≤ j → driver_of_port n j ≡ length ports
+driver_behind n ports j h le =
+    let from_zero : 0 + j ≡ j = omega arith in
+    ap (position_or_len (λ (d : DesignDriver). d.signal == j)) h.drivers
+    ∙ subst (λ (i : ℕ). position_or_len (λ d. d.signal == i) (map stimulus_driver (enumerate_from 0 ports)) ≡ length ports) from_zero (number_behind 0 ports j le)
+
+-- no driver has such a number
+changed_behind : (j : ℕ) (f : Driver → Driver) (ds : List Driver) → length ds ≤ j → changed j f ds ≡ ds
+changed_behind j f [] le = refl
+changed_behind zero f (d ∷ ds) le = absurd (omega (arith, le))
+changed_behind (suc j) f (d ∷ ds) le = ap (λ (rest : List Driver). d ∷ rest) (changed_behind j f ds (omega (arith, le)))
+
+pub length-changed : (j : ℕ) (f : Driver → Driver) (ds : List Driver) → length (changed j f ds) ≡ length ds
 length-changed j f [] = refl
 length-changed zero f (d ∷ ds) = refl
 length-changed (suc j) f (d ∷ ds) = ap suc (length-changed j f ds)
 
-length-sent : (lines : List StimLine) (ds : List Driver) → length (sent_to lines ds) ≡ length ds
+changed_is : (n : Network) (ports : List PortBit) (j : ℕ) (f : Driver → Driver) (ds : List Driver) → IsPortNet n ports → length ds ≡ length ports → changed (driver_of_port n j) f ds ≡ changed j f ds
+changed_is n ports j f ds h len =
+    elim (cases_lt j (length ports)) [
+      | inl there ↦ ap (λ (i : ℕ). changed i f ds) (driver_is n ports j h there)
+      | inr behind ↦
+          ap (λ (i : ℕ). changed i f ds) (driver_behind n ports j h behind)
+          ∙ changed_behind (length ports) f ds (omega (arith, len))
+          ∙ sym (changed_behind j f ds (omega (arith, len, behind)))
+    ]
+
+sent_are : (n : Network) (ports : List PortBit) (lines : List StimLine) (ds : List Driver) → IsPortNet n ports → length ds ≡ length ports → fold (stimulated n) ds lines ≡ sent_to lines ds
+sent_are n ports [] ds h len = refl
+sent_are n ports (line ∷ lines) ds h len =
+    let one : Driver → Driver = send 0 Transport line.value line.time in
+    ap (λ (drivers : List Driver). fold (stimulated n) drivers lines) (changed_is n ports line.port one ds h len)
+    ∙ sent_are n ports lines (changed line.port one ds) h (length-changed line.port one ds ∙ len)
+
+pub length-sent : (lines : List StimLine) (ds : List Driver) → length (sent_to lines ds) ≡ length ds
 length-sent [] ds = refl
 length-sent (line ∷ lines) ds = length-sent lines (changed line.port (send 0 Transport line.value line.time) ds) ∙ length-changed line.port (send 0 Transport line.value line.time) ds
 
-current-changed : (j : ℕ) (value : Level) (delay : ℕ) (ds : List Driver) → currents (changed j (send 0 Transport value delay) ds) ≡ currents ds
+pub current-changed : (j : ℕ) (value : Level) (delay : ℕ) (ds : List Driver) → currents (changed j (send 0 Transport value delay) ds) ≡ currents ds
 current-changed j value delay [] = refl
 current-changed zero value delay (d ∷ ds) = refl
 current-changed (suc j) value delay (d ∷ ds) = ap (λ (levels : List Level). d.current ∷ levels) (current-changed j value delay ds)
 
 -- no stimulus changes the value of a driver
-current-sent : (lines : List StimLine) (ds : List Driver) → currents (sent_to lines ds) ≡ currents ds
+pub current-sent : (lines : List StimLine) (ds : List Driver) → currents (sent_to lines ds) ≡ currents ds
 current-sent [] ds = refl
 current-sent (line ∷ lines) ds = current-sent lines (changed line.port (send 0 Transport line.value line.time) ds) ∙ current-changed line.port line.value line.time ds
 
@@ -96,16 +130,16 @@ begun_is n lines none =
     let no_processes : processes n ≡ [] = ap (λ (cells : List NetCell). flat_map processes_of (enumerate_from 0 cells)) none in
     ap (λ (ps : List NetProcess). all_activated ps (after_stimuli n lines)) no_processes
 
-begun_drivers : (n : Network) (ports : List PortBit) (lines : List StimLine) → IsPortNet n ports → All (λ line. line.port < length ports) lines → (after_stimuli n lines).state.drivers ≡ sent_to lines (idle_drivers ports)
-begun_drivers n ports lines h there = ap (λ (ds : List Driver). fold (stimulated n) ds lines) (first_are n ports h) ∙ sent_are n ports lines (idle_drivers ports) h there
+begun_drivers : (n : Network) (ports : List PortBit) (lines : List StimLine) → IsPortNet n ports → (after_stimuli n lines).state.drivers ≡ sent_to lines (idle_drivers ports)
+begun_drivers n ports lines h = ap (λ (ds : List Driver). fold (stimulated n) ds lines) (first_are n ports h) ∙ sent_are n ports lines (idle_drivers ports) h (length-map ports _)
 
 first_values : (n : Network) (ports : List PortBit) → IsPortNet n ports → values n (first_drivers n) ≡ currents (idle_drivers ports)
 first_values n ports h =
     ap (values n) (first_are n ports h) ∙ values_are n ports (idle_drivers ports) h (length-map ports _)
 
-at_first : (n : Network) (ports : List PortBit) (lines : List StimLine) → IsPortNet n ports → All (λ line. line.port < length ports) lines → AreAt ports (after_stimuli n lines).state
-at_first n ports lines h there =
-    let drivers = begun_drivers n ports lines h there in
+at_first : (n : Network) (ports : List PortBit) (lines : List StimLine) → IsPortNet n ports → AreAt ports (after_stimuli n lines).state
+at_first n ports lines h =
+    let drivers = begun_drivers n ports lines h in
     record {
       one_each = ap length drivers ∙ length-sent lines (idle_drivers ports) ∙ length-map ports _;
       same =
@@ -121,7 +155,7 @@ at_first n ports lines h there =
 inits_are : (ps : List PortBit) (ds : List Driver) → flat_map init_line (zip (map port_signal ps) (currents ds)) ≡ port_inits ps ds
 inits_are [] ds = refl
 inits_are (p ∷ ps) [] = refl
-inits_are (p ∷ ps) (d ∷ ds) = ap (λ (rest : List RunLine). init p.name d.current ∷ rest) (inits_are ps ds)
+inits_are (p ∷ ps) (d ∷ ds) = ap (λ (rest : List Said). init p.name d.current ∷ rest) (inits_are ps ds)
 
 init_lines_are : (n : Network) (ports : List PortBit) → IsPortNet n ports → init_lines n ≡ port_inits ports (idle_drivers ports)
 init_lines_are n ports h =
@@ -131,13 +165,13 @@ init_lines_are n ports h =
 
 -- ---- the whole run
 
-pub port_run : (ports : List PortBit) (lines : List StimLine) (until limit : ℕ) → 1 < limit → All (λ line. line.port < length ports) lines → (r : Run) × IsPortRun ports lines until limit r
-port_run ports lines until limit more there =
+pub port_run : (ports : List PortBit) (lines : List StimLine) (until limit : ℕ) → 1 < limit → (r : Run) × IsPortRun ports lines until limit r
+port_run ports lines until limit more =
     let n = port_network ports in
     let is = is_port_net ports in
     let s = (after_stimuli n lines).state in
-    let drivers = begun_drivers n ports lines is there in
-    let later = ports_run (pending_count s.drivers) n ports until limit s more is (at_first n ports lines is there) (omega arith) in
+    let drivers = begun_drivers n ports lines is in
+    let later = ports_run (pending_count s.drivers) n ports until limit s more is (at_first n ports lines is) (omega arith) in
     let told : flat_map (lines_of n) later.run.happened ≡ port_events_until until ports (sent_to lines (idle_drivers ports)) =
     later.told ∙ ap (port_events_until until ports) drivers in (
       later.run,
@@ -145,7 +179,7 @@ port_run ports lines until limit more there =
         is = subst (λ (part : Part). (q : Run) × IsRunFrom n until limit part.state q × (later.run ≡ behind part.happened q)) (sym (begun_is n lines is.cells)) (later.run, later.is, refl);
         ends = later.ends;
         told =
-            ap (λ (front : List RunLine). front ++ flat_map (lines_of n) later.run.happened) (init_lines_are n ports is)
-            ∙ ap (λ (back : List RunLine). port_inits ports (idle_drivers ports) ++ back) told;
+            ap (λ (front : List Said). front ++ flat_map (lines_of n) later.run.happened) (init_lines_are n ports is)
+            ∙ ap (λ (back : List Said). port_inits ports (idle_drivers ports) ++ back) told;
       },
     )

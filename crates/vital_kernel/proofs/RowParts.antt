@@ -22,11 +22,12 @@ use Rattle.vital_timing.specs.declared.delay.Delay.{Delay}
 use Rattle.vital_timing.specs.declared.delay.Delay.TheVariants as delay
 use Rattle.vital_typed_cells.specs.declared.typed_cell.TypedCell.{TypedCell}
 use Rattle.vital_typed_cells.specs.declared.wire.WireDelay.{WireDelay}
-use Rattle.vital_kernel.specs.DesignNetworks.{network}
-use Rattle.vital_kernel.specs.Lines.{RunLine, run_lines}
-use Rattle.vital_kernel.specs.Networks.{Network}
+use Rattle.vital_network.specs.DesignNetworks.{network}
+use Rattle.vital_kernel.specs.Lines.{run_lines}
+use Rattle.vital_report.specs.Lines.{Said}
+use Rattle.vital_network.specs.Networks.{Network}
 use Rattle.vital_kernel.specs.Runs.{End, Run, whole_run}
-use Rattle.vital_kernel.specs.declared.watch.Watch.{Watch}
+use Rattle.vital_base.specs.declared.watch.Watch.{Watch}
 
 -- ---- what is asked and told
 
@@ -36,7 +37,7 @@ line time number value = record { time = time; port = number; value = value }
 
 -- The lines of a run, and its end.
 abbrev pub Told : Type 0
-Told = List RunLine × End
+Told = List Said × End
 
 abbrev pub told : Network → Run → Told
 told n r = (run_lines n r.happened, r.end)

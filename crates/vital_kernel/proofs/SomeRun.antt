@@ -7,7 +7,7 @@ use Rattle.std.proofs.lemmas.Nat.{mul-le}
 use Rattle.vital_agenda.specs.Driver.{AllRise, next_time}
 use Rattle.vital_stim.specs.declared.stimuli.StimLine.{StimLine}
 use Rattle.vital_kernel.specs.Cycles.{Happening, Part, cycle_at, initial_run}
-use Rattle.vital_kernel.specs.Networks.{Network}
+use Rattle.vital_network.specs.Networks.{Network}
 use Rattle.vital_kernel.specs.Runs.{DeltaPassed, End, Ended, HasOneRun, HasOneRunFrom, IsRun, Run, Step, behind, cycle, delta_at, ended, ends, goes_on, going_on, passed, passes, run_within, step, step_at, up_to}
 use Rattle.vital_kernel.specs.States.{State}
 use Rattle.vital_kernel.proofs.Kept.{Keeps, cycle_keeps, initial_keeps}
@@ -46,7 +46,7 @@ is_run (suc most) n until limit s r e = by_step most n until limit s r (step n u
 -- ---- it gives one
 
 -- more steps than these are not left
-abbrev steps_left : ℕ → ℕ → ℕ → ℕ → ℕ
+abbrev pub steps_left : ℕ → ℕ → ℕ → ℕ → ℕ
 steps_left until limit now delta = (until - now) * (limit + 1) + (limit - delta) + 1
 
 abbrev Finds : ℕ → Network → ℕ → ℕ → Type 0
@@ -56,7 +56,7 @@ none_left : (times deltas : ℕ) → times + deltas + 1 ≤ 0 → ⊥
 none_left times deltas enough = omega (arith, enough)
 
 -- the next cycle has the present time, or a later one
-fewer_left : (until limit now time delta most : ℕ) → now ≤ time → time ≤ until → delta_at time now delta < limit → steps_left until limit now delta ≤ suc most
+pub fewer_left : (until limit now time delta most : ℕ) → now ≤ time → time ≤ until → delta_at time now delta < limit → steps_left until limit now delta ≤ suc most
     → steps_left until limit time (delta_at time now delta) ≤ most
 fewer_left until limit now time delta most le within next enough =
     elim (cases_eq time now) [
@@ -85,7 +85,7 @@ pub record Next (until : ℕ) (s : State) (time : ℕ) : Type 0 where
   pub is : next_time s.drivers ≡ Some time
   pub within : time ≤ until
 
-next_in : (until : ℕ) (s : State) (time : ℕ) (o : Option ℕ) → next_time s.drivers ≡ o → option_and_then (λ t. cond (leb t until) (Some t) None) o ≡ Some time → Next until s time
+pub next_in : (until : ℕ) (s : State) (time : ℕ) (o : Option ℕ) → next_time s.drivers ≡ o → option_and_then (λ t. cond (leb t until) (Some t) None) o ≡ Some time → Next until s time
 next_in until s time None is e = absurd cc
 next_in until s time (Some t) is e =
     elim (cases_Bool (leb t until)) [

@@ -3,9 +3,9 @@ use Rattle.std.proofs.Common.{◌≡◌, [], ◌∷◌, Some, refl}
 use Rattle.std.specs.Prelude.{codes}
 use Rattle.vital_logic.specs.declared.level.Level.TheVariants.{U, X, Zero, One, Z}
 use Rattle.vital_netlist.specs.Designs.{Design}
-use Rattle.vital_kernel.specs.Lines.{event, init}
+use Rattle.vital_report.specs.Lines.{event, init}
 use Rattle.vital_kernel.specs.Runs.{DeltaPassed, Ended}
-use Rattle.vital_kernel.specs.declared.watch.Watch.TheVariants.{All, Ports}
+use Rattle.vital_base.specs.declared.watch.Watch.TheVariants.{All, Ports}
 use Rattle.vital_kernel.proofs.RowParts.{drives, input_port, instance, line, net, simulated, tipd, top, top_cell, wire_cell}
 
 -- ---- one wire

@@ -1,19 +1,18 @@
 -- The initial run and the simulation cycle (IEEE 1076-1993, 12.6.4).
-use Rattle.std.specs.Prelude.{ℕ, ◌+◌, ◌==◌, Bool, List, [], ◌∷◌, ◌++◌, map, filter, length, slice_set, Option}
-use Rattle.std.specs.List.{flat_map, fold, list_any, position_or_len, range_with_len}
+use Rattle.std.specs.Prelude.{ℕ, ◌+◌, ◌==◌, Bool, List, [], ◌∷◌, ◌++◌, map, filter, Option}
+use Rattle.std.specs.List.{flat_map, fold, list_any, position_or_len}
 use Rattle.vital_agenda.specs.Agendas.{changed, idle_driver}
 use Rattle.vital_agenda.specs.Driver.{Driver, advance, send}
 use Rattle.vital_base.specs.declared.kind.Kind.TheVariants.{Transport}
-use Rattle.vital_execution.specs.Execution.{all_executed, exec, start}
-use Rattle.vital_execution.specs.Variables.{Slot}
 use Rattle.vital_logic.specs.declared.level.Level.{Level}
 use Rattle.vital_machine.specs.declared.effect.Effect.{Effect}
 use Rattle.vital_machine.specs.declared.effect.Effect.TheVariants as effect
+use Rattle.vital_processes.specs.Processes.{done_by, first_variables, with_slots}
 use Rattle.vital_signals.specs.Events.{new_values as changed_values, quiet_signal, with_values}
 use Rattle.vital_stim.specs.declared.stimuli.StimLine.{StimLine}
 use Rattle.vital_timing_checks.specs.declared.violated.Violated.{Violated}
-use Rattle.vital_kernel.specs.Networks.{NetCell, NetProcess, Network, all_drivers, processes, sensitivity}
-use Rattle.vital_kernel.specs.States.{State, inputs, slots_of, values}
+use Rattle.vital_network.specs.Networks.{NetProcess, Network, all_drivers, processes, sensitivity}
+use Rattle.vital_kernel.specs.States.{State, values}
 
 -- What is told of a run: a signal gets a new value, or an instance of a cell has a message of a glitch at a port or of a violated check. The
 -- instance has its number among those of cells, and bits have their numbers in their cell.
@@ -41,15 +40,11 @@ said now delta instance (effect.Assign driver s) = []
 said now delta instance (effect.Glitch port) = Glitch now delta instance port ∷ []
 said now delta instance (effect.Violation test reference violated) = Violation now delta instance test reference violated ∷ []
 
--- The variables of all processes, where those of one hold this.
-abbrev pub with_slots : NetProcess → List Slot → List (List (List Slot)) → List (List (List Slot))
-with_slots p slots variables = changed p.instance (λ of_processes. slice_set of_processes p.number slots) variables
-
 -- A process runs: it is executed, its effects are made in order, and its variables hold what it left in them.
 abbrev pub activated : Part → NetProcess → Part
 activated part p =
     let s = part.state in
-    let done = exec p.cell.tree p.cell.delays p.number s.now (inputs s p) (slots_of s p) in
+    let done = done_by s.now s.signals s.variables p in
     record {
       state = record s {
         drivers = fold (sent s.now p.cell.first_driver) s.drivers done.effects;
@@ -66,9 +61,6 @@ all_activated ps part = fold activated part ps
 
 abbrev pub first_drivers : Network → List Driver
 first_drivers n = map (λ d. idle_driver d.initial) (all_drivers n)
-
-abbrev pub first_variables : NetCell → List (List Slot)
-first_variables cell = map (start cell.tree cell.delays) (range_with_len 0 (length (all_executed cell.tree)))
 
 -- Before it each driver has its first value, each signal the value that these give, and each variable its first value.
 abbrev pub first_state : Network → State

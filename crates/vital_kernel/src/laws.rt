@@ -1,11 +1,11 @@
 //! Laws of runs, as functions whose contracts they are.
 
-ghost use Rattle.std.specs.Prelude.{◌≡◌, ℕ, ◌<◌, true, List, length, All};
+ghost use Rattle.std.specs.Prelude.{◌≡◌, ℕ, ◌<◌, true, List, length};
 ghost use Rattle.vital_agenda.specs.Driver.{AllRise};
 ghost use Rattle.vital_base.specs.declared.ports.PortBit.{PortBit};
-ghost use Rattle.vital_kernel.specs.DesignNetworks.{is_stimulated};
-ghost use Rattle.vital_kernel.specs.Networks.{Network};
-ghost use Rattle.vital_kernel.specs.PortNetworks.{IsOfDesign};
+ghost use Rattle.vital_network.specs.DesignNetworks.{is_stimulated};
+ghost use Rattle.vital_network.specs.Networks.{Network};
+ghost use Rattle.vital_network.specs.PortNetworks.{IsOfDesign};
 ghost use Rattle.vital_kernel.specs.PortRuns.{IsPortRun};
 ghost use Rattle.vital_kernel.specs.Runs.{HasOneRun, HasOneRunFrom, Run};
 ghost use Rattle.vital_kernel.specs.States.{State};
@@ -30,6 +30,5 @@ pub fn ports_are_a_design()
 
 /// The run of ports alone, in which cycles of delta number 1 may begin, ends and is that of their drivers: a law, called for its clause.
 pub fn port_run()
-    ensures { (ports : List PortBit) (lines : List StimLine) (until limit : ℕ)
-        → 1 < limit → All (λ line. line.port < length ports) lines → (r : Run) × IsPortRun ports lines until limit r }
+    ensures { (ports : List PortBit) (lines : List StimLine) (until limit : ℕ) → 1 < limit → (r : Run) × IsPortRun ports lines until limit r }
 {}

@@ -1,9 +1,16 @@
-//! Runs of a design by the simulation cycle (IEEE 1076-1993, 12.6.4), as definitions: what a run simulates, its states and cycles, and the
-//! lines that are printed of it. No code runs here.
+//! Runs of a network by the simulation cycle (IEEE 1076-1993, 12.6.4): their states, cycles and lines as definitions, with laws of them, and
+//! the simulation that does what these say.
 #![tactic(auto)]
 
+mod activation;
+mod effects;
+mod first;
+mod kernel;
 mod laws;
-mod watch;
+mod printing;
+mod run_error;
+mod stimuli;
 
+pub use kernel::Kernel;
 pub use laws::{one_run, one_run_from, port_run, ports_are_a_design};
-pub use watch::Watch;
+pub use run_error::RunError;

@@ -1,0 +1,248 @@
+//! A simulation of a network.
+
+ghost use Rattle.std.specs.Prelude.{◌≡◌, ◌-◌, ◌^◌, ◌<◌, ◌≤◌, All, IfOk, OnOk, Some, false, true};
+ghost use Rattle.vital_agenda.specs.Driver.{AllRise, next_time};
+ghost use Rattle.vital_kernel.specs.Activations.{text_in};
+ghost use Rattle.vital_kernel.specs.Cycles.{cycle_at, first_state, initial_run};
+ghost use Rattle.vital_kernel.specs.Kernels.{GoesOn, IsDriven, begun, begun_text};
+ghost use Rattle.vital_kernel.specs.Lines.{run_lines};
+ghost use Rattle.vital_kernel.specs.Runs.{delta_at, up_to};
+ghost use Rattle.vital_report.specs.Lines.{text_of};
+ghost use Rattle.vital_report.specs.Reporters.{PrintsPart};
+
+use crate::activation::{run_all, run_some};
+use crate::first::{first_signals, first_values};
+use crate::printing::{print_events, print_inits};
+use crate::run_error::RunError;
+use crate::stimuli::{assign_stimuli, stimulus_drivers};
+use std::alloc::{AllocError, Global};
+use std::marker::Model;
+use vital_agenda::{Agenda, Due};
+use vital_base::{Sink, Time};
+use vital_listeners::Listeners;
+use vital_network::Network;
+use vital_processes::Processes;
+use vital_report::{PrintError, Printer};
+use vital_signals::Signals;
+use vital_stim::StimLine;
+
+/// A simulation of a network with stimuli, by any agenda (IEEE 1076-1993, 12.6.4). Contracts see it as what is simulated and the state in
+/// which it stands.
+#[derive(Drop)]
+pub struct Kernel<'a, A: Agenda> {
+    network: &'a Network<'a>,
+    lines: &'a [StimLine],
+    /// For each signal the number of its driver for the stimuli; 0 where it has none.
+    stimulus_drivers: Vec<u32>,
+    agenda: A,
+    due: Due,
+    signals: Signals,
+    processes: Processes<'a>,
+    listeners: Listeners,
+    delta: u64,
+    is_begun: bool,
+}
+
+impl<'a, A: Agenda> Model for Kernel<'a, A> {
+    ghost use Rattle.std.specs.Coded.{codes};
+    ghost use Rattle.vital_kernel.specs.Kernels.{AreParts, Simulation};
+    ghost use Rattle.vital_netlist.specs.contracts.design_lists.DesignDriver as driver;
+    ghost use Rattle.vital_network.specs.contracts.network.NetSignal as signal;
+    ghost use Rattle.vital_timing.specs.contracts.delay.Delay as delay;
+    ghost use Rattle.vital_typed_cells.specs.contracts.typed_cell.TypedCell as tree;
+
+    ghost Value = { Simulation };
+
+    ghost coded = { Prim.hlevel (codes, driver.the_row.coded, signal.the_row.coded, delay.the_row.coded, tree.the_row.coded) };
+
+    ghost view = { λ k. record {
+      network = k.network.now;
+      lines = k.lines.now;
+      is_begun = k.is_begun;
+      state = record {
+        now = (A.content k.agenda).now;
+        delta = k.delta;
+        drivers = (A.content k.agenda).drivers;
+        signals = k.signals.signals;
+        variables = k.processes.variables;
+      };
+    } };
+
+    ghost invariant = { λ k. AreParts (record {
+      network = k.network.now;
+      lines = k.lines.now;
+      is_begun = k.is_begun;
+      state = record {
+        now = (A.content k.agenda).now;
+        delta = k.delta;
+        drivers = (A.content k.agenda).drivers;
+        signals = k.signals.signals;
+        variables = k.processes.variables;
+      };
+    }) k.stimulus_drivers.items k.due.room k.signals k.processes k.listeners };
+}
+
+impl<'a, A: Agenda> Kernel<'a, A> {
+    /// The simulation of a network with stimuli, each line of which is for a port with a driver. The initial run is still to come. It takes
+    /// time and memory in proportion to the network, and all memory but that of pending transactions.
+    pub fn start(
+        alloc: Global,
+        network: &'a Network<'a>,
+        lines: &'a [StimLine],
+    ) -> Result<Kernel<'a, A>, AllocError>
+        requires { All (IsDriven network.now) lines.now }
+        ensures { IfOk result (λ k. k ≡ record { network = network.now; lines = lines.now; is_begun = false; state = first_state network.now }) }
+    {
+        let initial = first_values(alloc, network)?;
+        let signals = first_signals(alloc, network, &initial)?;
+        let stimulus_drivers = stimulus_drivers(alloc, network)?;
+        let due = Due::reserve(alloc, initial.len() as u32)?;
+        let processes = Processes::new(alloc, network)?;
+        let listeners = Listeners::new(alloc, network)?;
+        let agenda = A::new(alloc, initial.as_slice())?;
+        Ok(Kernel {
+            network,
+            lines,
+            stimulus_drivers,
+            agenda,
+            due,
+            signals,
+            processes,
+            listeners,
+            delta: 0,
+            is_begun: false,
+        })
+    }
+
+    /// Goes on with the run up to an end time, which is at most 2^60 fs, where no cycle has a delta number as large as the limit, which is at
+    /// least 1, and prints its lines: does the initial run where it is still to come, and then each cycle up to the end time. In a cycle
+    /// only the drivers that are due, the signals that these drive, and the processes that are sensitive to a signal with an event are
+    /// touched. At the limit it stands before the cycle that would pass it. After a fault of the sink or want of memory a prefix of the
+    /// lines was printed, and the simulation is of no more use.
+    pub fn run_until<K: Sink>(
+        &mut self,
+        until: Time,
+        limit: u64,
+        printer: &mut Printer<'_, K>,
+    ) -> Result<(), RunError>
+        requires until { until ≤ 2 ^ 60 }
+        requires limit { 1 ≤ limit }
+        requires goes_on { printer.old.stopped ≡ false }
+        ensures { GoesOn result until limit self.old self.new printer.old printer.new }
+    {
+        self.begin(printer)?;
+        self.run_cycles(until, limit, printer)
+    }
+
+    /// Does the initial run, where it is still to come.
+    fn begin<K: Sink>(&mut self, printer: &mut Printer<'_, K>) -> Result<(), PrintError>
+        requires { printer.old.stopped ≡ false }
+        ensures after { OnOk result (self.new ≡ begun self.old) }
+        ensures prints { PrintsPart result (begun_text self.old) printer.old printer.new }
+    {
+        if self.is_begun {
+            return Ok(());
+        }
+        self.is_begun = true;
+        self.run_first(printer)
+    }
+
+    /// Does the initial run, where nothing was done before.
+    fn run_first<K: Sink>(&mut self, printer: &mut Printer<'_, K>) -> Result<(), PrintError>
+        requires begun { self.old.is_begun ≡ true }
+        requires first { self.old.state ≡ first_state self.old.network }
+        requires goes_on { printer.old.stopped ≡ false }
+        ensures after { let first = initial_run self.old.network self.old.lines in OnOk result (self.new ≡ record self.old { state = first.state }) }
+        ensures prints { let first = initial_run self.old.network self.old.lines in
+            PrintsPart result (text_of (run_lines self.old.network first.happened)) printer.old printer.new }
+    {
+        print_inits(self.network.signals(), &self.signals, printer)?;
+        assign_stimuli(&self.stimulus_drivers, self.lines, &mut self.agenda)?;
+        run_all(
+            self.network,
+            &self.signals,
+            self.delta,
+            &mut self.agenda,
+            &mut self.processes,
+            printer,
+        )
+    }
+
+    /// Runs the cycles up to an end time.
+    fn run_cycles<K: Sink>(
+        &mut self,
+        until: Time,
+        limit: u64,
+        printer: &mut Printer<'_, K>,
+    ) -> Result<(), RunError>
+        requires until { until ≤ 2 ^ 60 }
+        requires begun { self.old.is_begun ≡ true }
+        requires goes_on { printer.old.stopped ≡ false }
+        ensures { GoesOn result until limit self.old self.new printer.old printer.new }
+    {
+        while let Some(time) = self.next_cycle(until) {
+            let delta = self.next_delta(time);
+            if delta >= limit {
+                return Err(RunError::DeltaLimit { time });
+            }
+            self.run_cycle(time, delta, printer)?;
+        }
+        Ok(())
+    }
+
+    /// The time of the next cycle, where it comes up to an end time.
+    fn next_cycle(&self, until: Time) -> Option<Time>
+        ensures next { result ≡ up_to until (next_time self.now.state.drivers) }
+        ensures rise { AllRise self.now.state.now self.now.state.drivers }
+    {
+        match self.agenda.next_time() {
+            Some(time) if time <= until => Some(time),
+            _ => None,
+        }
+    }
+
+    /// The delta number of the next cycle, which comes at a time.
+    fn next_delta(&self, time: Time) -> u64
+        ensures { result ≡ delta_at time self.now.state.now self.now.state.delta }
+    {
+        if time == self.agenda.now() {
+            self.delta + 1
+        } else {
+            0
+        }
+    }
+
+    /// Runs the next cycle, which comes at a time and has a delta number: transactions that are due become values, signals get theirs, and
+    /// the processes run that are sensitive to a signal with an event.
+    fn run_cycle<K: Sink>(
+        &mut self,
+        time: Time,
+        delta: u64,
+        printer: &mut Printer<'_, K>,
+    ) -> Result<(), PrintError>
+        requires next { next_time self.old.state.drivers ≡ Some time }
+        requires rise { AllRise self.old.state.now self.old.state.drivers }
+        requires time { time ≤ 2 ^ 60 }
+        requires delta { delta < 2 ^ 64 - 1 }
+        requires begun { self.old.is_begun ≡ true }
+        requires goes_on { printer.old.stopped ≡ false }
+        ensures after { let part = cycle_at self.old.network time delta self.old.state in OnOk result (self.new ≡ record self.old { state = part.state }) }
+        ensures prints { let part = cycle_at self.old.network time delta self.old.state in
+            PrintsPart result (text_in self.old.network part.happened) printer.old printer.new }
+    {
+        self.agenda.advance(&mut self.due);
+        self.signals.update(&self.agenda, &self.due);
+        self.delta = delta;
+        print_events(self.network.signals(), &self.signals, time, delta, printer)?;
+        self.listeners.trigger(self.signals.events());
+        run_some(
+            self.network,
+            self.listeners.triggered(),
+            &self.signals,
+            delta,
+            &mut self.agenda,
+            &mut self.processes,
+            printer,
+        )
+    }
+}
