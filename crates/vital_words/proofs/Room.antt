@@ -9,11 +9,11 @@ use Rattle.vital_words.specs.Jobs.{file_of, file_in}
 use Rattle.vital_words.specs.Keys.{value_in, is_for}
 use Rattle.vital_words.specs.Refusals.{refusal_of, refusal, fault_or, first_refusal, fault_of, first_fault, is_met, missing}
 use Rattle.vital_words.specs.declared.command.Command.{Command}
-use Rattle.vital_words.specs.declared.command.Command.TheVariants.{Play, Check, Tree}
+use Rattle.vital_words.specs.declared.command.Command.TheVariants.{Play, Check, Tree, Sim}
 use Rattle.vital_words.specs.declared.command.KeyRule.{KeyRule}
 use Rattle.vital_words.specs.declared.job.NamedFile.{NamedFile}
 use Rattle.vital_words.specs.declared.key.Key.{Key}
-use Rattle.vital_words.specs.declared.key.Key.TheVariants.{File, Until, Top}
+use Rattle.vital_words.specs.declared.key.Key.TheVariants.{File, Until, Top, Delta, Watch}
 use Rattle.vital_words.specs.declared.refusal.UsageFault.{UsageFault}
 use Rattle.vital_words.specs.declared.refusal.UsageWhy.{UsageWhy}
 use Rattle.vital_words.specs.declared.refusal.UsageWhy.TheVariants as why
@@ -28,6 +28,8 @@ abbrev files_by : Key → ℕ → ℕ
 files_by (File kind) times = times
 files_by Until times = 0
 files_by Top times = 0
+files_by Delta times = 0
+files_by Watch times = 0
 
 -- how many more files the keys may name after the earlier words
 abbrev room : List KeyRule → List (List ℕ) → ℕ
@@ -38,12 +40,16 @@ files_by-fewer : (key : Key) (m n : ℕ) → m ≤ n → files_by key m ≤ file
 files_by-fewer (File kind) m n le = le
 files_by-fewer Until m n le = omega arith
 files_by-fewer Top m n le = omega arith
+files_by-fewer Delta m n le = omega arith
+files_by-fewer Watch m n le = omega arith
 
 -- a value takes room where it names a file
 files_by-taken : (key : Key) (value : List ℕ) (m n : ℕ) → m < n → count_of (file_of key value) + files_by key m ≤ files_by key n
 files_by-taken (File kind) value m n lt = omega (arith, lt)
 files_by-taken Until value m n lt = omega arith
 files_by-taken Top value m n lt = omega arith
+files_by-taken Delta value m n lt = omega arith
+files_by-taken Watch value m n lt = omega arith
 
 -- one word more counts where it is for the key
 counted : (key : Key) (earlier : List (List ℕ)) (word : List ℕ) → count_by (is_for key) (earlier ++ word ∷ []) ≡ count_by (is_for key) earlier + cond (is_for key word) 1 0
@@ -103,13 +109,14 @@ not_faulty : (o : Option UsageFault) (all_met : Bool) (missing : UsageFault) →
 not_faulty None all_met missing e = refl
 not_faulty (Some fault) all_met missing e = absurd cc
 
-room_of : (command : Command) → room (rules_of command) [] ≤ 17
+room_of : (command : Command) → room (rules_of command) [] ≤ 18
 room_of Play = omega arith
 room_of Check = omega arith
 room_of Tree = omega arith
+room_of Sim = omega arith
 
 -- words of a command that have no fault name few files
-pub few_files : (command : Command) (words : List (List ℕ)) → first_fault (rules_of command) words ≡ None → length (filter_map (file_in (rules_of command)) words) ≤ 17
+pub few_files : (command : Command) (words : List (List ℕ)) → first_fault (rules_of command) words ≡ None → length (filter_map (file_in (rules_of command)) words) ≤ 18
 few_files command words e =
     let none = not_faulty (first_refusal (rules_of command) [] 2 words) (list_all (is_met words) (rules_of command)) (missing words) e in
     omega (arith, within_room (rules_of command) [] 2 words none, room_of command)

@@ -2,11 +2,11 @@
 use Rattle.std.specs.Prelude.{ℕ, List, [], ◌∷◌, Option, Some, None, true, false, codes, if◌then◌else◌}
 use Rattle.std.specs.Str.{bytes_eq}
 use Rattle.vital_words.specs.declared.command.Command.{Command}
-use Rattle.vital_words.specs.declared.command.Command.TheVariants.{Play, Check, Tree}
+use Rattle.vital_words.specs.declared.command.Command.TheVariants.{Play, Check, Tree, Sim}
 use Rattle.vital_words.specs.declared.command.KeyRule.{KeyRule}
 use Rattle.vital_words.specs.declared.key.FileKind.TheVariants.{Lib, Net, Stim}
 use Rattle.vital_words.specs.declared.key.Key.{Key}
-use Rattle.vital_words.specs.declared.key.Key.TheVariants.{File, Until, Top}
+use Rattle.vital_words.specs.declared.key.Key.TheVariants.{File, Until, Top, Delta, Watch}
 
 -- The command that is written so.
 abbrev pub command_named : List ℕ → Option Command
@@ -14,6 +14,7 @@ command_named word =
     if bytes_eq word (codes "play") then Some Play
     else if bytes_eq word (codes "check") then Some Check
     else if bytes_eq word (codes "tree") then Some Tree
+    else if bytes_eq word (codes "sim") then Some Sim
     else None
 
 -- A key that must come, and may come so often.
@@ -29,3 +30,6 @@ abbrev pub rules_of : Command → List KeyRule
 rules_of Play = required (File Stim) 1 ∷ required Until 1 ∷ []
 rules_of Check = required (File Lib) 16 ∷ []
 rules_of Tree = required (File Lib) 16 ∷ optional (File Net) 1 ∷ required Top 1 ∷ []
+rules_of Sim =
+    required (File Lib) 16 ∷ optional (File Net) 1 ∷ required Top 1 ∷ required (File Stim) 1 ∷ required Until 1 ∷ optional Delta 1
+    ∷ optional Watch 1 ∷ []

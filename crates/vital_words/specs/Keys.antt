@@ -4,12 +4,14 @@ use Rattle.std.specs.Char.{is_ascii_digit}
 use Rattle.std.specs.List.{list_all, filter_map}
 use Rattle.std.specs.Option.{is_some, option_map}
 use Rattle.std.specs.Str.{bytes_eq}
+use Rattle.vital_base.specs.declared.watch.Watch.{Watch as Watch'}
+use Rattle.vital_base.specs.declared.watch.Watch.TheVariants as watch
 use Rattle.vital_base.specs.Times.{number_of, unit_named, time_of}
 use Rattle.vital_identifiers.specs.Identifiers.{is_basic_identifier}
 use Rattle.vital_words.specs.declared.key.FileKind.{FileKind}
 use Rattle.vital_words.specs.declared.key.FileKind.TheVariants.{Lib, Net, Stim}
 use Rattle.vital_words.specs.declared.key.Key.{Key}
-use Rattle.vital_words.specs.declared.key.Key.TheVariants.{File, Until, Top}
+use Rattle.vital_words.specs.declared.key.Key.TheVariants.{File, Until, Top, Delta, Watch}
 
 infixl 10 ◌>>=◌
 abbrev pub ◌>>=◌ : {A B : Type 0} → Option A → (A → Option B) → Option B
@@ -28,6 +30,19 @@ end_time value = do
   unit ← unit_named (drop digits value)
   time_of number unit
 
+-- A limit of delta numbers: 1 to 1,000,000, in at most 7 digits.
+abbrev pub delta_limit : List ℕ → Option ℕ
+delta_limit value = if nat_le (length value) 7 then (do
+  number ← number_of value
+  if nat_le 1 number && nat_le number 1_000_000 then Some number else None) else None
+
+-- The signals that are watched for a value.
+abbrev pub watch_named : List ℕ → Option Watch'
+watch_named value =
+    if bytes_eq value (codes "ports") then Some watch.Ports
+    else if bytes_eq value (codes "all") then Some watch.All
+    else None
+
 -- How the key of a file is written.
 abbrev pub file_key : FileKind → List ℕ
 file_key Lib = codes "lib"
@@ -39,12 +54,16 @@ abbrev pub name_of : Key → List ℕ
 name_of (File kind) = file_key kind
 name_of Until = codes "until"
 name_of Top = codes "top"
+name_of Delta = codes "delta"
+name_of Watch = codes "watch"
 
 -- Which values a key takes.
 abbrev pub is_good : Key → List ℕ → Bool
 is_good (File kind) value = is_file_name value
 is_good Until value = is_some (end_time value)
 is_good Top value = is_basic_identifier value
+is_good Delta value = is_some (delta_limit value)
+is_good Watch value = is_some (watch_named value)
 
 -- The key and the value of a word, which its first `=` parts.
 abbrev pub parts : List ℕ → Option (List ℕ × List ℕ)

@@ -14,6 +14,8 @@ pub enum Command {
     Check,
     /// Print an elaborated design.
     Tree,
+    /// Simulate an elaborated design.
+    Sim,
 }
 
 /// How a command takes a key.
@@ -61,6 +63,20 @@ const TOP: KeyRule = KeyRule {
     is_required: true,
 };
 
+/// The limit of delta numbers of a run.
+const DELTA: KeyRule = KeyRule {
+    key: Key::Delta,
+    most: 1,
+    is_required: false,
+};
+
+/// The signals of a run that are watched.
+const WATCH: KeyRule = KeyRule {
+    key: Key::Watch,
+    most: 1,
+    is_required: false,
+};
+
 impl Command {
     /// The command that is written so.
     pub fn named(word: &[u8]) -> Option<Command>
@@ -70,6 +86,7 @@ impl Command {
             b"play" => Some(Command::Play),
             b"check" => Some(Command::Check),
             b"tree" => Some(Command::Tree),
+            b"sim" => Some(Command::Sim),
             _ => None,
         }
     }
@@ -82,6 +99,7 @@ impl Command {
             Command::Play => &[STIM, UNTIL],
             Command::Check => &[LIB],
             Command::Tree => &[LIB, NET, TOP],
+            Command::Sim => &[LIB, NET, TOP, STIM, UNTIL, DELTA, WATCH],
         }
     }
 }

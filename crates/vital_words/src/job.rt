@@ -1,17 +1,17 @@
 //! What the words of a command line ask for.
 
-ghost use Rattle.std.specs.Prelude.{◌≡◌, ◌≤◌, ◌<◌, length, position, List as List', IfOk, IfSome, Ok};
+ghost use Rattle.std.specs.Prelude.{◌≡◌, ◌^◌, ◌≤◌, ◌<◌, length, position, List as List', IfOk, IfSome, Ok};
 ghost use Rattle.std.specs.List.{filter_map};
 ghost use Rattle.std.specs.Option.{option_map};
-ghost use Rattle.vital_words.specs.Jobs.{file_of, file_in, is_stim, play_of, tree_of, task_of, job_of, job};
-ghost use Rattle.vital_words.specs.Given.{GivesJob, NamesIn};
+ghost use Rattle.vital_words.specs.Jobs.{file_of, file_in, is_stim, limit_of, play_of, sim_of, tree_of, task_of, watch_of, job_of, job};
+ghost use Rattle.vital_words.specs.Given.{GivesJob, IsBounded, IsBoundedTask, NamesIn};
 ghost use Rattle.vital_words.specs.declared.job.JobError.TheVariants.{NoMemory};
 
 use crate::command::{Command, KeyRule};
-use crate::key::{FileKind, Key, end_time};
+use crate::key::{FileKind, Key, delta_limit, end_time, watch_named};
 use crate::refusal::{UsageFault, UsageWhy, first_fault, missing};
 use std::alloc::{AllocError, Global};
-use vital_base::{List, Name, Time, Word};
+use vital_base::{List, Name, Time, Watch, Word};
 
 /// What the words of a command line ask for.
 #[derive(Drop)]
@@ -38,6 +38,8 @@ pub enum Task {
     Check,
     /// The design that they make is printed.
     Tree(Tree),
+    /// The design that they make is simulated.
+    Sim(Sim),
 }
 
 /// What `play` plays.
@@ -54,6 +56,21 @@ pub struct Play {
 pub struct Tree {
     /// The name of the top of the design, in small letters.
     pub top: Name,
+}
+
+/// What `sim` simulates.
+#[derive(Drop)]
+pub struct Sim {
+    /// The number of the stimulus file, counted from 0 among the files of the job.
+    pub stim: usize,
+    /// The name of the top of the design, in small letters.
+    pub top: Name,
+    /// The end time, in femtoseconds.
+    pub until: Time,
+    /// A cycle with this delta number does not begin: 1 to 1,000,000.
+    pub limit: u32,
+    /// The signals whose first values and events are printed.
+    pub watch: Watch,
 }
 
 /// Why there is no job.
@@ -74,8 +91,9 @@ impl From<AllocError> for JobError {
 /// What the words ask for, or the first fault from left to right; or want of memory.
 pub fn read_job(alloc: Global, words: &[Word]) -> Result<Job, JobError>
     ensures job { GivesJob result (job words.now) }
-    ensures few_files { IfOk result (λ found. length found.files ≤ 17) }
+    ensures few_files { IfOk result (λ found. length found.files ≤ 18) }
     ensures names_in { IfOk result NamesIn }
+    ensures bounded { IfOk result IsBounded }
 {
     let refused = Err(JobError::Usage(UsageFault {
         word: 1,
@@ -93,8 +111,9 @@ pub fn read_job(alloc: Global, words: &[Word]) -> Result<Job, JobError>
 /// What the words after a command ask for.
 fn job_of(alloc: Global, command: Command, words: &[Word]) -> Result<Job, JobError>
     ensures job { GivesJob result (job_of command words.now) }
-    ensures few_files { IfOk result (λ found. length found.files ≤ 17) }
+    ensures few_files { IfOk result (λ found. length found.files ≤ 18) }
     ensures names_in { IfOk result NamesIn }
+    ensures bounded { IfOk result IsBounded }
 {
     let rules = command.rules();
     if let Some(fault) = first_fault(rules, words) {
@@ -144,7 +163,7 @@ fn file_of<'a>(key: Key, value: &'a [u8]) -> Option<(FileKind, &'a [u8])>
 {
     match key {
         Key::File(kind) => Some((kind, value)),
-        Key::Until | Key::Top => None,
+        Key::Until | Key::Top | Key::Delta | Key::Watch => None,
     }
 }
 
@@ -157,11 +176,13 @@ fn task_of(
 ) -> Result<Option<Task>, AllocError>
     ensures task { IfOk result (λ found. found ≡ task_of command files.now words.now) }
     ensures names_in { IfOk result (λ found. IfSome found (λ task. NamesIn (record { files = files.now; task = task }))) }
+    ensures bounded { IfOk result (λ found. IfSome found IsBoundedTask) }
 {
     match command {
         Command::Play => Ok(play_of(files, words).map(Task::Play)),
         Command::Check => Ok(Some(Task::Check)),
         Command::Tree => Ok(tree_of(alloc, words)?.map(Task::Tree)),
+        Command::Sim => Ok(sim_of(alloc, files, words)?.map(Task::Sim)),
     }
 }
 
@@ -169,6 +190,7 @@ fn task_of(
 fn play_of(files: &[NamedFile], words: &[Word]) -> Option<Play>
     ensures play { result ≡ play_of files.now words.now }
     ensures stim { IfSome result (λ play. play.stim < length files.now) }
+    ensures until { IfSome result (λ play. play.until ≤ 2 ^ 60) }
 {
     let stim = first_stim(files)?;
     let until = end_time(Key::Until.value(words)?)?;
@@ -184,6 +206,48 @@ fn tree_of(alloc: Global, words: &[Word]) -> Result<Option<Tree>, AllocError>
             let top = Name::new(top.to_ascii_lowercase(alloc)?);
             Ok(Some(Tree { top }))
         }
+        None => Ok(None),
+    }
+}
+
+/// The limit of delta numbers, which is 1,000 where no word gives one.
+fn limit_of(words: &[Word]) -> u32
+    ensures limit { result ≡ limit_of words.now }
+    ensures bounded { (1 ≤ result) × (result ≤ 1_000_000) }
+{
+    Key::Delta
+        .value(words)
+        .and_then(delta_limit)
+        .unwrap_or(1_000)
+}
+
+/// The signals that are watched, which are the ports where no word says.
+fn watch_of(words: &[Word]) -> Watch
+    ensures { result ≡ watch_of words.now }
+{
+    Key::Watch
+        .value(words)
+        .and_then(watch_named)
+        .unwrap_or(Watch::Ports)
+}
+
+/// What `sim` simulates.
+fn sim_of(alloc: Global, files: &[NamedFile], words: &[Word]) -> Result<Option<Sim>, AllocError>
+    ensures sim { IfOk result (λ found. found ≡ sim_of files.now words.now) }
+    ensures stim { IfOk result (λ found. IfSome found (λ sim. sim.stim < length files.now)) }
+    ensures bounded { IfOk result (λ found. IfSome found (λ sim. IsBoundedTask (Task.Sim sim))) }
+{
+    let Some(Play { stim, until }) = play_of(files, words) else {
+        return Ok(None);
+    };
+    match tree_of(alloc, words)? {
+        Some(tree) => Ok(Some(Sim {
+            stim,
+            top: tree.top,
+            until,
+            limit: limit_of(words),
+            watch: watch_of(words),
+        })),
         None => Ok(None),
     }
 }

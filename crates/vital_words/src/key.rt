@@ -1,16 +1,21 @@
 //! The keys of words, and the values that words give to them.
 
-ghost use Rattle.std.specs.Prelude.{◌≡◌, ◌<◌, ◌==◌, not, nat_le, length, position, IfSome, count_by};
+ghost use Rattle.std.specs.Prelude.{◌≡◌, ◌^◌, ◌≤◌, ◌<◌, ◌==◌, not, nat_le, length, position, IfSome, count_by};
 ghost use Rattle.std.specs.Char.{is_ascii_digit};
 ghost use Rattle.std.specs.List.{list_all};
 ghost use Rattle.std.specs.Option.{option_map, option_copied};
-ghost use Rattle.vital_words.specs.Keys.{name_of, file_key, is_good, is_file_name, end_time, parts, value_in, is_for, value_of};
+ghost use Rattle.vital_words.specs.Keys.{name_of, file_key, is_good, is_file_name, end_time, delta_limit, watch_named, parts, value_in, is_for, value_of};
 
-use vital_base::{Time, TimeUnit, Word, read_number};
+use vital_base::{Time, TimeUnit, Watch, Word, read_number};
 use vital_identifiers::is_basic_identifier;
 
 /// How many bytes the name of a file may have.
 const LONGEST_FILE_NAME: usize = 4_096;
+
+/// How many digits a limit of delta numbers may have, and the greatest one.
+const LONGEST_DELTA_LIMIT: usize = 7;
+
+const GREATEST_DELTA_LIMIT: u64 = 1_000_000;
 
 /// What a file is read as.
 #[derive(Clone, Copy, PartialEq, Eq)]
@@ -32,6 +37,10 @@ pub enum Key {
     Until,
     /// The name of the top of a design.
     Top,
+    /// The limit of delta numbers.
+    Delta,
+    /// The signals that are watched.
+    Watch,
 }
 
 impl Key {
@@ -43,6 +52,8 @@ impl Key {
             Key::File(kind) => file_key(kind),
             Key::Until => b"until",
             Key::Top => b"top",
+            Key::Delta => b"delta",
+            Key::Watch => b"watch",
         }
     }
 
@@ -54,6 +65,8 @@ impl Key {
             Key::File(_) => is_file_name(value),
             Key::Until => end_time(value).is_some(),
             Key::Top => is_basic_identifier(value),
+            Key::Delta => delta_limit(value).is_some(),
+            Key::Watch => watch_named(value).is_some(),
         }
     }
 
@@ -120,12 +133,39 @@ fn all_printable(bytes: &[u8]) -> bool
 
 /// The end time that a value writes, in femtoseconds.
 pub fn end_time(value: &[u8]) -> Option<Time>
-    ensures { result ≡ end_time value.now }
+    ensures time { result ≡ end_time value.now }
+    ensures bounded { IfSome result (λ time. time ≤ 2 ^ 60) }
 {
     let digits = first_non_digit(value)?;
     let number = read_number(&value[..digits])?;
     let unit = TimeUnit::named(&value[digits..])?;
     unit.time(number)
+}
+
+/// The limit of delta numbers that a value writes.
+pub fn delta_limit(value: &[u8]) -> Option<u32>
+    ensures { result ≡ delta_limit value.now }
+{
+    if value.len() > LONGEST_DELTA_LIMIT {
+        return None;
+    }
+    let number = read_number(value)?;
+    if 1 <= number && number <= GREATEST_DELTA_LIMIT {
+        Some(number as u32)
+    } else {
+        None
+    }
+}
+
+/// The signals that are watched for a value.
+pub fn watch_named(value: &[u8]) -> Option<Watch>
+    ensures { result ≡ watch_named value.now }
+{
+    match value {
+        b"ports" => Some(Watch::Ports),
+        b"all" => Some(Watch::All),
+        _ => None,
+    }
 }
 
 fn first_non_digit(bytes: &[u8]) -> Option<usize>

@@ -9,6 +9,6 @@ mod refusal;
 mod tests;
 
 pub use command::{Command, KeyRule};
-pub use job::{Job, JobError, NamedFile, Play, Task, Tree, read_job};
+pub use job::{Job, JobError, NamedFile, Play, Sim, Task, Tree, read_job};
 pub use key::{FileKind, Key};
 pub use refusal::{UsageFault, UsageWhy};

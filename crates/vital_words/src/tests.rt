@@ -5,7 +5,7 @@ use crate::key::FileKind;
 use crate::refusal::{UsageFault, UsageWhy};
 use std::alloc::{AllocError, Global};
 use std::test::Fail;
-use vital_base::Word;
+use vital_base::{Watch, Word};
 
 fn words_of(alloc: Global, words: &[&str]) -> Result<Vec<Word>, AllocError> {
     let mut all = Vec::new(alloc);
@@ -208,5 +208,61 @@ fn limits_are_kept(rt: HostRuntime) -> Result<(), Fail> {
     assert!(rt;
         matches!(read_job(alloc, &words), Err(JobError::Usage(found)) if found == UsageFault { word: 2, why: UsageWhy::Value })
     );
+    Ok(())
+}
+
+/// Words of a simulation that are refused, with the number of the first that is.
+const NO_SIMULATION: [(&[&str], u64, UsageWhy); 12] = [
+    (&["sim", "lib=a", "top=x", "until=1"], 4, UsageWhy::Value),
+    (&["sim", "delta=0"], 2, UsageWhy::Value),
+    (&["sim", "delta=1000001"], 2, UsageWhy::Value),
+    (&["sim", "delta=00000001"], 2, UsageWhy::Value),
+    (&["sim", "delta="], 2, UsageWhy::Value),
+    (&["sim", "watch=ALL"], 2, UsageWhy::Value),
+    (&["sim", "watch=all", "watch=all"], 3, UsageWhy::Twice),
+    (&["sim", "delta=1", "delta=1"], 3, UsageWhy::Twice),
+    (&["tree", "watch=all"], 2, UsageWhy::Key),
+    (&["play", "delta=1"], 2, UsageWhy::Key),
+    (&["sim", "lib=a", "top=x", "stim=s"], 5, UsageWhy::Missing),
+    (
+        &["sim", "lib=a", "top=x", "until=1ns"],
+        5,
+        UsageWhy::Missing,
+    ),
+];
+
+#[test]
+fn words_of_simulations_are_refused(rt: HostRuntime) -> Result<(), Fail> {
+    for (words, word, why) in NO_SIMULATION.iter() {
+        assert!(rt;
+            is_refused(rt.alloc(), words, *word, *why)?,
+            "at {word} {why:?}"
+        );
+    }
+    Ok(())
+}
+
+/// The words that a simulation need not have, the limit of delta numbers that is meant, and whether all signals are watched.
+const SIMULATIONS: [(&[&str], u32, bool); 5] = [
+    (&[], 1_000, false),
+    (&["delta=1"], 1, false),
+    (&["delta=1000000", "watch=all"], 1_000_000, true),
+    (&["watch=ports", "delta=0000010"], 10, false),
+    (&["watch=all"], 1_000, true),
+];
+
+#[test]
+fn simulations_are_read(rt: HostRuntime) -> Result<(), Fail> {
+    let alloc = rt.alloc();
+    for (others, limit, all) in SIMULATIONS.iter() {
+        let mut words = words_of(alloc, &["sim", "lib=a", "stim=s", "top=Foo", "until=2ns"])?;
+        words.append(&mut words_of(alloc, others)?)?;
+        let job = read_job(alloc, &words).map_err(|_| "refused")?;
+        assert!(rt;
+            matches!(&job.task, Task::Sim(sim) if sim.stim == 1 && sim.top.as_slice() == "foo".as_bytes() && sim.until == 2_000_000
+                && sim.limit == *limit && (sim.watch == Watch::All) == *all),
+            "at {limit}"
+        );
+    }
     Ok(())
 }
