@@ -4,8 +4,7 @@ use Rattle.std.proofs.lemmas.List.{drop_all}
 use Rattle.std.proofs.lemmas.Option.{slice_get_within}
 use Rattle.vital_level1.specs.declared.level.CellLevel.{CellLevel}
 use Rattle.vital_names.specs.Sites.{Cell}
-use Rattle.vital_report.specs.Lines.{bytes_of}
-use Rattle.vital_tool.specs.Answer.{text_of}
+use Rattle.vital_report.specs.Lines.{bytes_of, text_of}
 use Rattle.vital_tool.specs.Cells.{level_line, level_lines}
 use Rattle.vital_words.specs.declared.job.NamedFile.{NamedFile}
 

@@ -7,7 +7,8 @@ use Rattle.vital_level1.specs.declared.level.CellLevel.{CellLevel}
 use Rattle.vital_limits.specs.declared.passed.PassedLimit.{PassedLimit}
 use Rattle.vital_nodes.specs.declared.unit.Units.{Units}
 use Rattle.vital_report.specs.Reporters.{PrinterState, Printed, Stopped}
-use Rattle.vital_tool.specs.Answer.{Answer, text_of}
+use Rattle.vital_tool.specs.Answer.{Answer}
+use Rattle.vital_report.specs.Lines.{text_of}
 use Rattle.vital_tool.specs.Cells.{AreJudged, IsCellsAnswer, cells, cells_answer, is_below_level1, level_lines, limit_lines, status_of}
 use Rattle.vital_tool.specs.Outcome.{Stage}
 use Rattle.vital_tool.specs.declared.status.Status.TheVariants.{Done, Found, ReadFault, WriteFault}

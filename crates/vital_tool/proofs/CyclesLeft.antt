@@ -1,6 +1,5 @@
 -- What holds between two cycles of a run.
 use Rattle.std.proofs.Common.{◌≡◌, ℕ, ◌+◌, ◌-◌, ◌^◌, ◌<◌, ◌≤◌, false, List, [], ◌∷◌, ◌++◌, length, map, Some, None, ◌⊎◌, inl, inr, refl, sym, ap, subst, ◌∙◌, arith}
-use Rattle.std.specs.List.{flat_map}
 use Rattle.std.proofs.lemmas.Grind.{flat_map-append}
 use Rattle.std.proofs.lemmas.List.{length-map}
 use Rattle.vital_base.specs.declared.ports.PortBit.{PortBit}
@@ -8,18 +7,21 @@ use Rattle.vital_report.specs.Reporters.{PrinterState, Printed}
 use Rattle.vital_stim.specs.declared.stimuli.StimLine.{StimLine}
 use Rattle.vital_agenda.specs.Agendas.{Content}
 use Rattle.vital_agenda.specs.Driver.{Driver, AllRise, currents, next_time, advance, pending_count}
-use Rattle.vital_tool.specs.Ports.{ComeFrom, cycles, cycle_text, cycles_text, due, due_lines, later_lines, port_events, sent_to}
-use Rattle.vital_tool.specs.Run.{delta_at, up_to}
-use Rattle.vital_tool.specs.Stimuli.{text_of_event}
-use Rattle.vital_tool.proofs.CycleStates.{cycles_step, cycles_end, due_next}
+use Rattle.vital_report.specs.Lines.{bytes_of, text_of}
+use Rattle.vital_kernel.specs.PortRuns.{due, port_cycles, port_events, sent_to}
+use Rattle.vital_kernel.specs.Runs.{delta_at, up_to}
+use Rattle.vital_kernel.proofs.Least.{all_rise_next, all_rise_after, all_rise_lower, next_is_above, fewer_pending}
+use Rattle.vital_kernel.proofs.PortCycles.{cycles_end}
+use Rattle.vital_kernel.proofs.PortRuns.{current-sent, length-sent}
+use Rattle.vital_tool.specs.Ports.{ComeFrom, cycle_text, cycles_text, due_lines, later_lines}
+use Rattle.vital_tool.proofs.CycleStates.{cycles_step, due_next}
 use Rattle.vital_tool.proofs.Handing.{advance_sent, due_at_time, due_come, first_is_due, first_time_of, idle_rise, later_come, next_is_first, none_advanced, rise_sent, same_events, sent_parts, taken_sent}
-use Rattle.vital_tool.proofs.Least.{all_rise_next, all_rise_after, all_rise_lower, next_is_above, fewer_pending}
 use Rattle.vital_tool.proofs.Parts.{Part, part_begins, part_goes_on, part_ends}
-use Rattle.vital_tool.proofs.Sending.{come_lower, current-sent, length-sent}
+use Rattle.vital_tool.proofs.Sending.{come_lower}
 
 -- the text of the cycles that are left
 abbrev pub left_text : ℕ → List PortBit → ℕ → ℕ → ℕ → List Driver → List ℕ
-left_text most ports until now delta ds = flat_map text_of_event (cycles most ports until now delta ds)
+left_text most ports until now delta ds = text_of (port_cycles most ports until now delta ds)
 
 -- the text of the cycles that are left is the rest of the whole, and only the first cycle can come at the present time
 pub record CyclesLeft (ports : List PortBit) (until : ℕ) (start : PrinterState) (whole : List ℕ) (now delta : ℕ) (ds : List Driver) (printer : PrinterState) : Type 0 where
@@ -46,8 +48,8 @@ comes ports until start whole now delta time ds printer h e =
     let step = cycles_step h.most ports until time now delta ds h.enough e in
     let number : ℕ = delta_at time now delta in
     let text : left_text h.most ports until now delta ds ≡ cycle_text time number ports ds ++ left_text step.left ports until time number (map (advance time) ds) =
-    ap (flat_map text_of_event) step.next
-    ∙ flat_map-append text_of_event (port_events time number ports ds) (cycles step.left ports until time number (map (advance time) ds)) in
+    ap text_of step.next
+    ∙ flat_map-append bytes_of (port_events time number ports ds) (port_cycles step.left ports until time number (map (advance time) ds)) in
     record {
       left = step.left;
       enough = step.enough;
@@ -80,7 +82,7 @@ goes_on_after ports until start whole now delta time ds printer next len h w =
 pub all_done : (ports : List PortBit) (until : ℕ) (start : PrinterState) (whole : List ℕ) (now delta : ℕ) (ds : List Driver) (printer : PrinterState)
     → CyclesLeft ports until start whole now delta ds printer → due until ds ≡ None → Printed whole start printer
 all_done ports until start whole now delta ds printer h e =
-    let none = ap (flat_map text_of_event) (cycles_end h.most ports until now delta ds e) in
+    let none = ap text_of (cycles_end h.most ports until now delta ds e) in
     part_ends start whole printer (subst (λ (rest : List ℕ). Part start whole rest printer) none h.part)
 
 -- ---- lines that are handed when they are due
@@ -130,7 +132,7 @@ hands ports until start whole now delta time lines content printer h e =
       next = next_is_first now (due_lines time lines) ds h.none due ∙ first_is_due time lines first_is;
       one_each = h.cycles.one_each ∙ length-sent lines ds ∙ sym (length-sent (due_lines time lines) ds);
       after = after;
-      text = λ number. ap (flat_map text_of_event) (same_events time number ports (sent_to lines ds) sent
+      text = λ number. ap text_of (same_events time number ports (sent_to lines ds) sent
           (ap currents (sym parts) ∙ current-sent (later_lines time lines) sent)
           (ap currents after ∙ current-sent (later_lines time lines) (map (advance time) sent)));
     }

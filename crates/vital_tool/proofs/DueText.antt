@@ -1,9 +1,9 @@
 -- A cycle over the drivers that are due alone.
 use Rattle.std.proofs.Common.{◌≡◌, ℕ, zero, suc, ◌+◌, ◌<◌, ◌≤◌, cond, List, [], ◌∷◌, ◌++◌, length, get_or, set, drop, map, true, false, Option, Some, inl, inr, refl, sym, ap, subst, ◌∙◌, append_assoc, zero-add, arith}
-use Rattle.std.specs.Prelude.{All, slice_get}
+use Rattle.std.specs.Prelude.{All, find, is_some, slice_get}
 use Rattle.std.specs.List.{flat_map}
 use Rattle.std.specs.Option.{option_map_or}
-use Rattle.std.proofs.lemmas.Bool.{cases_Bool, eq-eqb}
+use Rattle.std.proofs.lemmas.Bool.{cases_Bool, cases_eq, eq-eqb, false≢true, ne_eqb}
 use Rattle.std.proofs.lemmas.Grind.{flat_map-append}
 use Rattle.std.proofs.lemmas.List.{drop_more, get_or_at, set_at, length-append}
 use Rattle.std.proofs.lemmas.List.Elements.{All-nil, All-cons}
@@ -12,12 +12,26 @@ use Rattle.vital_logic.specs.Levels.{byte_of}
 use Rattle.vital_logic.specs.declared.level.Level.{Level}
 use Rattle.vital_logic.specs.declared.level.Level.TheVariants.{U}
 use Rattle.vital_agenda.specs.declared.transaction.Transaction.{Transaction}
-use Rattle.vital_agenda.specs.Driver.{Driver, currents, same_level, advance}
+use Rattle.vital_agenda.specs.Driver.{Driver, currents, is_at, same_level, advance}
 use Rattle.vital_agenda.specs.Agendas.{Content, advanced, due_at, due_from, is_due}
-use Rattle.vital_tool.specs.Run.{Event}
-use Rattle.vital_tool.specs.Ports.{event_of, value_event, port_event, port_events, cycle_text, due_text, updated}
-use Rattle.vital_tool.specs.Stimuli.{text_of_event}
-use Rattle.vital_tool.proofs.Rising.{keeps_all}
+use Rattle.vital_report.specs.Lines.{Said, bytes_of, text_of}
+use Rattle.vital_kernel.specs.PortRuns.{port_event, port_events}
+use Rattle.vital_kernel.proofs.Rising.{NoneAt}
+use Rattle.vital_tool.specs.Ports.{event_of, value_event, cycle_text, due_text, updated}
+
+-- where none is found, all are kept
+keeps_all : (time : ℕ) (xs : List Transaction) → is_some (find (is_at time) xs) ≡ false → NoneAt time xs
+keeps_all time [] e = record { none = refl; all = refl }
+keeps_all time (x ∷ xs) e =
+    elim (cases_eq x.time time) [
+      | inl same ↦ absurd (false≢true (sym (rw (eq-eqb x.time time same) at e)))
+      | inr other ↦
+          let later = keeps_all time xs (rw (ne_eqb x.time time other) at e) in
+          record {
+            none = rw (ne_eqb x.time time other) later.none;
+            all = rw (ne_eqb x.time time other) (ap (λ (ys : List Transaction). x ∷ ys) later.all);
+          }
+    ]
 
 -- a driver that isn't due keeps its value
 idle_current : (time : ℕ) (d : Driver) → is_due time d ≡ false → (advance time d).current ≡ d.current
@@ -42,7 +56,7 @@ due_below number time bound (d ∷ ds) le = elim (is_due time d) as (λ b. All (
 -- ---- the text of the drivers that are due is that of the cycle
 
 abbrev text_at : ℕ → ℕ → List PortBit → List Level → List Level → ℕ → List ℕ
-text_at time delta ports before after n = flat_map text_of_event (event_of time delta (slice_get ports n) (slice_get before n) (slice_get after n))
+text_at time delta ports before after n = text_of (event_of time delta (slice_get ports n) (slice_get before n) (slice_get after n))
 
 due_text_is : (time delta : ℕ) (ports : List PortBit) (before after : List Level) (numbers : List ℕ) → due_text time delta ports before after numbers ≡ flat_map (text_at time delta ports before after) numbers
 due_text_is time delta ports before after [] = refl
@@ -56,11 +70,11 @@ due_is_cycle number time delta text [] (d ∷ ds) len h = absurd (omega arith)
 due_is_cycle number time delta text (p ∷ ports) [] len h = absurd (omega arith)
 due_is_cycle number time delta text (p ∷ ports) (d ∷ ds) len h =
     let rest = due_is_cycle (suc number) time delta text ports ds (omega arith) (λ i. let shift : suc number + i ≡ number + suc i = omega arith in ap text shift ∙ h (suc i)) in
-    let here : text number ≡ flat_map text_of_event (port_event time delta p d) = (let zero_is : number ≡ number + 0 = omega arith in ap text zero_is ∙ h 0) in
-    let parted = flat_map-append text_of_event (port_event time delta p d) (port_events time delta ports ds) in
+    let here : text number ≡ text_of (port_event time delta p d) = (let zero_is : number ≡ number + 0 = omega arith in ap text zero_is ∙ h 0) in
+    let parted = flat_map-append bytes_of (port_event time delta p d) (port_events time delta ports ds) in
     elim (cases_Bool (is_due time d)) [
-      | inl due ↦ rw due (ap (λ (xs : List ℕ). xs ++ flat_map text (due_from (suc number) time ds)) here ∙ ap (λ (ys : List ℕ). flat_map text_of_event (port_event time delta p d) ++ ys) rest ∙ sym parted)
-      | inr idle ↦ rw idle (rest ∙ sym (ap (λ (es : List Event). flat_map text_of_event (es ++ port_events time delta ports ds)) (idle_event time delta p d idle)))
+      | inl due ↦ rw due (ap (λ (xs : List ℕ). xs ++ flat_map text (due_from (suc number) time ds)) here ∙ ap (λ (ys : List ℕ). text_of (port_event time delta p d) ++ ys) rest ∙ sym parted)
+      | inr idle ↦ rw idle (rest ∙ sym (ap (λ (es : List Said). text_of (es ++ port_events time delta ports ds)) (idle_event time delta p d idle)))
     ]
 
 pub due_text_is_cycle : (time delta : ℕ) (ports : List PortBit) (ds : List Driver) → length ports ≡ length ds
@@ -119,13 +133,13 @@ updated_more after values numbers k n value lt is got =
 
 pub due_text_more : (time delta : ℕ) (ports : List PortBit) (before after : List Level) (numbers : List ℕ) (k n : ℕ) (p : PortBit) (old new : Level) → k < length numbers → n ≡ get_or numbers k 0
     → slice_get ports n ≡ Some p → slice_get before n ≡ Some old → slice_get after n ≡ Some new
-    → due_text time delta ports before after (drop k numbers) ≡ flat_map text_of_event (value_event time delta p old new) ++ due_text time delta ports before after (drop (k + 1) numbers)
+    → due_text time delta ports before after (drop k numbers) ≡ text_of (value_event time delta p old new) ++ due_text time delta ports before after (drop (k + 1) numbers)
 due_text_more time delta ports before after numbers k n p old new lt is port_is old_is new_is =
     ap (due_text time delta ports before after) (drop_more numbers k 0 lt)
     ∙ ap (λ (m : ℕ). text_at time delta ports before after m ++ due_text time delta ports before after (drop (k + 1) numbers)) (sym is)
-    ∙ ap (λ (o : Option PortBit). flat_map text_of_event (event_of time delta o (slice_get before n) (slice_get after n)) ++ due_text time delta ports before after (drop (k + 1) numbers)) port_is
-    ∙ ap (λ (o : Option Level). flat_map text_of_event (event_of time delta (Some p) o (slice_get after n)) ++ due_text time delta ports before after (drop (k + 1) numbers)) old_is
-    ∙ ap (λ (o : Option Level). flat_map text_of_event (event_of time delta (Some p) (Some old) o) ++ due_text time delta ports before after (drop (k + 1) numbers)) new_is
+    ∙ ap (λ (o : Option PortBit). text_of (event_of time delta o (slice_get before n) (slice_get after n)) ++ due_text time delta ports before after (drop (k + 1) numbers)) port_is
+    ∙ ap (λ (o : Option Level). text_of (event_of time delta (Some p) o (slice_get after n)) ++ due_text time delta ports before after (drop (k + 1) numbers)) old_is
+    ∙ ap (λ (o : Option Level). text_of (event_of time delta (Some p) (Some old) o) ++ due_text time delta ports before after (drop (k + 1) numbers)) new_is
 
 pub there : {A : Type 0} → (xs : List A) (i : ℕ) (d : A) → i < length xs → slice_get xs i ≡ Some (get_or xs i d)
 there [] i d lt = absurd (omega arith)

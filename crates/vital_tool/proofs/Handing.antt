@@ -15,9 +15,10 @@ use Rattle.vital_stim.specs.declared.stimuli.Stimuli.{Stimuli}
 use Rattle.vital_agenda.specs.Agendas.{changed, is_due}
 use Rattle.vital_agenda.specs.Driver.{Driver, RisesFrom, AllRise, currents, is_at, with_new, send, sooner, least, pending_times, next_time, advance, pending_count}
 use Rattle.vital_agenda.specs.declared.transaction.Transaction.{Transaction}
-use Rattle.vital_tool.specs.Ports.{ComeFrom, due_lines, later_lines, sent_to, value_event, port_events}
-use Rattle.vital_tool.proofs.Least.{NotAfter, least-append, next_is_above, rises_above, count-le, fewer_pending}
-use Rattle.vital_tool.proofs.Rising.{first_is_least, none_at}
+use Rattle.vital_kernel.specs.PortRuns.{port_events, sent_to}
+use Rattle.vital_kernel.proofs.Least.{NotAfter, least-append, next_is_above, rises_above, count-le, fewer_pending}
+use Rattle.vital_kernel.proofs.Rising.{first_is_least, none_at}
+use Rattle.vital_tool.specs.Ports.{ComeFrom, due_lines, later_lines, value_event}
 use Rattle.vital_tool.proofs.Sending.{come_lower, changed_rise}
 
 -- ---- the lines of stimuli can be handed

@@ -1,5 +1,3 @@
-pub mod Rising
-pub mod Least
 pub mod CycleStates
 pub mod Texts
 pub mod Sending
@@ -16,6 +14,9 @@ pub mod Rows
 pub mod FilesRead
 pub mod Parts
 pub mod CyclesLeft
+pub mod NetworkRuns
+pub mod Driven
+pub mod Delays
 pub mod Judged
 pub mod ListedCells
 pub mod CellLines

@@ -1,10 +1,13 @@
 -- Words and files have one answer, since each text has one reading.
-use Rattle.std.proofs.Common.{◌≡◌, ℕ, ◌+◌, ◌-◌, List, [], ◌∷◌, map, Option, Some, None, Result, Ok, Err, refl, sym, ap, subst, ◌∙◌}
+use Rattle.std.proofs.Common.{◌≡◌, ℕ, ◌+◌, ◌-◌, List, [], ◌∷◌, Option, Some, None, Result, Ok, Err, refl, sym, ap, subst, ◌∙◌}
 use Rattle.std.specs.List.{slice_get}
 use Rattle.vital_base.specs.Shelves.{Files}
 use Rattle.vital_base.specs.Sinks.{Told}
 use Rattle.vital_base.specs.declared.place.Place.{Place}
-use Rattle.vital_netlist.specs.Elaboration.{elaborated}
+use Rattle.vital_netlist.specs.Designs.{Design}
+use Rattle.vital_netlist.specs.Elaboration.{Fault as NetFault, elaborated}
+use Rattle.vital_netlist.specs.Refusals.{refused as refused_as}
+use Rattle.vital_network.specs.Networks.{Network}
 use Rattle.vital_instances.specs.Judges.{IsJudge, Judge}
 use Rattle.vital_level0.specs.Breaches.{HasOneFirst}
 use Rattle.vital_library.specs.Faults.{least_of, faults}
@@ -18,30 +21,32 @@ use Rattle.vital_library.specs.declared.fault.FaultKind.{FaultKind}
 use Rattle.vital_library.specs.declared.fault.FaultKind.TheVariants.{Duplicate, NoEntity}
 use Rattle.vital_report.specs.declared.line.LibraryWhy.TheVariants as why
 use Rattle.vital_report.specs.declared.line.Limit.TheVariants.{Units as UnitsLimit}
-use Rattle.vital_report.specs.Lines.{refused_stimulus}
+use Rattle.vital_report.specs.Lines.{text_of}
 use Rattle.vital_stim.specs.Stimuli.{stim}
 use Rattle.vital_stim.specs.declared.fault.StimFault.{StimFault}
+use Rattle.vital_stim.specs.declared.stimuli.StimLine.{StimLine}
 use Rattle.vital_stim.specs.declared.stimuli.Stimuli.{Stimuli}
-use Rattle.vital_tool.specs.Answer.{Answer, ◌>>=◌, text_of, refused, not_there}
+use Rattle.vital_tool.specs.Answer.{Answer, ◌>>=◌, not_there}
 use Rattle.vital_tool.specs.Cells.{IsCellsAnswer, cells, cells_answer}
+use Rattle.vital_tool.specs.Designs.{IsElaboratedAnswer, IsUnderAnswer, refused_design}
 use Rattle.vital_tool.specs.Loading.{all_loaded}
 use Rattle.vital_tool.specs.Outcome.{Gives, memory_failed}
-use Rattle.vital_tool.specs.Play.{port_signal}
-use Rattle.vital_tool.specs.Ports.{port_run}
 use Rattle.vital_tool.specs.Reading.{Continues, IsReadAs, AreRead, role_of}
 use Rattle.vital_tool.specs.Refusals.{refused_words, text_refusal, IsFileRefusal, refused_at, IsLibraryRefusal}
-use Rattle.vital_tool.specs.Run.{Event}
-use Rattle.vital_tool.specs.Stages.{IsPlayAnswer, IsTaskAnswer, IsLibraryAnswer, IsReadAnswer, IsLoadedAnswer, IsJobAnswer, IsOnlyAnswer}
-use Rattle.vital_tool.specs.Stimuli.{init_line, run_lines, printed_why, IsStimuliAnswer, IsReadStimuliAnswer}
-use Rattle.vital_tool.specs.Trees.{IsTreeAnswer, tree_answer}
+use Rattle.vital_tool.specs.Runs.{IsRunAnswer}
+use Rattle.vital_tool.specs.Simulations.{IsSimAnswer, IsStimulatedAnswer, simulated}
+use Rattle.vital_tool.specs.Stages.{IsPlayAnswer, IsSimulatedAnswer, IsTaskAnswer, IsLibraryAnswer, IsReadAnswer, IsLoadedAnswer, IsJobAnswer, IsOnlyAnswer}
+use Rattle.vital_tool.specs.Stimuli.{IsStimuliAnswer, IsReadStimuliAnswer, refused_stimuli}
+use Rattle.vital_tool.specs.Trees.{IsTreeAnswer, tree_lines}
 use Rattle.vital_tool.specs.declared.loading.Source.{Source}
 use Rattle.vital_tool.specs.declared.refusal.Refusal.{Refusal}
 use Rattle.vital_tool.specs.declared.refusal.Refusal.TheVariants as refusals
 use Rattle.vital_tool.specs.declared.status.Status.{Status}
-use Rattle.vital_tool.specs.declared.status.Status.TheVariants.{Done, Stimulus, NoMemory}
+use Rattle.vital_tool.specs.declared.status.Status.TheVariants.{Done, NoMemory}
 use Rattle.vital_tool.proofs.Checked.{is_answer}
+use Rattle.vital_tool.proofs.Elaborated.{elaborated_by}
 use Rattle.vital_tool.proofs.Judged.{some_finding}
-use Rattle.vital_tool.proofs.OneRun.{one_run, started, stimuli_run}
+use Rattle.vital_tool.proofs.OneRun.{OneRun, only_told, run_told, said_of, stimuli_answer, stimuli_said, told_of}
 use Rattle.vital_tool.proofs.Texts.{appended-nil}
 use Rattle.vital_vhdl.specs.Outcomes.{IsReading}
 use Rattle.vital_vhdl.specs.declared.read.UnitError.{UnitError}
@@ -52,8 +57,9 @@ use Rattle.vital_nodes.specs.declared.unit.Units.{Units}
 use Rattle.vital_words.specs.Jobs.{job}
 use Rattle.vital_words.specs.declared.job.Job.{Job}
 use Rattle.vital_words.specs.declared.job.NamedFile.{NamedFile}
+use Rattle.vital_words.specs.declared.job.Sim.{Sim as Sim'}
 use Rattle.vital_words.specs.declared.job.Task.{Task}
-use Rattle.vital_words.specs.declared.job.Task.TheVariants.{Play, Check, Tree}
+use Rattle.vital_words.specs.declared.job.Task.TheVariants.{Play, Check, Tree, Sim}
 use Rattle.vital_words.specs.declared.refusal.UsageFault.{UsageFault}
 
 -- there is one of this kind
@@ -69,11 +75,12 @@ pub record OneJudge : Type 0 where
   pub is : (judge : Judge) × IsJudge judge
   pub only : (a b : Judge) → IsJudge a → IsJudge b → a ≡ b
 
--- each cell has one first breach, each text one reading, and there is one judge of cells
+-- each cell has one first breach, each text one reading, there is one judge of cells, and each network has one run
 pub record Laws : Type 0 where
   pub first : HasOneFirst
   pub reads : OneReading
   pub judge : OneJudge
+  pub run : OneRun
 
 -- this one alone
 one_is : {A : Type 0} (x : A) → IsOne (λ (y : A). y ≡ x)
@@ -132,37 +139,64 @@ gathered_is files e = limited_is (slice_get (units_of files) MOST_UNITS) e
     limited_is None h = judged_is files (least_of (faults (units_of files))) h
     limited_is (Some extra) h = cc
 
-one_stimuli_answer : (until : ℕ) (stimuli : Stimuli) → IsOne (IsStimuliAnswer until stimuli)
-one_stimuli_answer until stimuli =
-    let run = stimuli_run until stimuli in
-    let said = λ (happened : List Event). let answer : Answer = record { bytes = text_of (run_lines (map init_line (map port_signal stimuli.ports)) happened until); status = Done } in answer in
-    let happened = port_run stimuli.ports (started stimuli) until in
-    (said happened, (happened, run, refl), λ other o. o.2 ∙ ap said (one_run o.1 run).0)
+one_run_answer : OneRun → (n : Network) (lines : List StimLine) (until limit : ℕ) → IsOne (IsRunAnswer n lines until limit)
+one_run_answer runs n lines until limit =
+    let one = runs.one n lines until limit in
+    (told_of n until limit one.run, run_told n lines until limit one, only_told n lines until limit one)
 
-one_read_stimuli : (name : List ℕ) (until : ℕ) (read : Result Stimuli StimFault) → IsOne (IsReadStimuliAnswer name until read)
-one_read_stimuli name until (Ok stimuli) = one_stimuli_answer until stimuli
-one_read_stimuli name until (Err fault) = one_is (refused (refused_stimulus (printed_why fault.why) name fault.line) Stimulus)
+one_stimuli_answer : OneRun → (until : ℕ) (stimuli : Stimuli) → IsOne (IsStimuliAnswer until stimuli)
+one_stimuli_answer one until stimuli = (said_of until stimuli, stimuli_said one until stimuli, stimuli_answer one until stimuli)
 
-one_play_answer : (until : ℕ) (file : Option NamedFile) (source : Option Source) → IsOne (IsPlayAnswer until file source)
-one_play_answer until (Some file) (Some source) = one_read_stimuli file.name until (stim source.text None)
-one_play_answer until (Some file) None = one_is not_there
-one_play_answer until None source = one_is not_there
+one_read_stimuli : OneRun → (name : List ℕ) (until : ℕ) (read : Result Stimuli StimFault) → IsOne (IsReadStimuliAnswer name until read)
+one_read_stimuli one name until (Ok stimuli) = one_stimuli_answer one until stimuli
+one_read_stimuli one name until (Err fault) = one_is (refused_stimuli name fault)
+
+one_play_answer : OneRun → (until : ℕ) (file : Option NamedFile) (source : Option Source) → IsOne (IsPlayAnswer until file source)
+one_play_answer one until (Some file) (Some source) = one_read_stimuli one file.name until (stim source.text None)
+one_play_answer one until (Some file) None = one_is not_there
+one_play_answer one until None source = one_is not_there
 
 one_cells_answer : HasOneFirst → (files : List NamedFile) (library : List Units) → IsOne (IsCellsAnswer files library)
 one_cells_answer first files library =
     let found = some_finding first (cells library) in
     (cells_answer files (cells library) found.0 found.1, (found.0, found.1, found.2, refl), is_answer first files library found.0 found.1 found.2)
 
-one_tree_answer : OneJudge → (files : List NamedFile) (library : List Units) (top : List ℕ) → IsOne (IsTreeAnswer files library top)
-one_tree_answer one files library top =
-    let judge = one.is.0 in
+one_tree_answer : (d : Design) → IsOne (IsTreeAnswer d)
+one_tree_answer d = one_is (record { bytes = text_of (tree_lines d); status = Done })
+
+one_stimulated : OneRun → (sim : Sim') (name : List ℕ) (d : Design) (read : Result Stimuli StimFault) → IsOne (IsStimulatedAnswer sim name d read)
+one_stimulated runs sim name d (Ok stimuli) = one_run_answer runs (simulated sim d stimuli.lines) stimuli.lines sim.until sim.limit
+one_stimulated runs sim name d (Err fault) = one_is (refused_stimuli name fault)
+
+one_elaborated : (IsAnswer : Design → Answer → Type 0) → ((d : Design) → IsOne (IsAnswer d)) → (files : List NamedFile) (top : List ℕ) (e : Result Design NetFault)
+    → IsOne (IsElaboratedAnswer IsAnswer files top e)
+one_elaborated IsAnswer one files top (Ok d) = one d
+one_elaborated IsAnswer one files top (Err f) = one_is (refused_design files top (refused_as f))
+
+one_under_answer : OneJudge → (IsAnswer : Design → Answer → Type 0) → ((d : Design) → IsOne (IsAnswer d)) → (files : List NamedFile) (library : List Units) (top : List ℕ)
+    → IsOne (IsUnderAnswer IsAnswer files library top)
+one_under_answer judges IsAnswer one files library top =
+    let judge = judges.is.0 in
     let made = elaborated judge library top in
-    (tree_answer files top made, (made, (judge, one.is.1, refl), refl), λ other o. o.2 ∙ ap (tree_answer files top) (o.1.2 ∙ ap (λ (j : Judge). elaborated j library top) (one.only o.1.0 judge o.1.1 one.is.1)))
+    let p = one_elaborated IsAnswer one files top made in (
+      p.0,
+      (made, (judge, judges.is.1, refl), p.1),
+      λ other o. p.2 other (subst (λ (e : Result Design NetFault). IsElaboratedAnswer IsAnswer files top e other) (elaborated_by judges.only judge judges.is.1 library top o.0 o.1) o.2),
+    )
+
+one_simulated_answer : Laws → (sim : Sim') (files : List NamedFile) (library : List Units) (file : Option NamedFile) (source : Option Source)
+    → IsOne (IsSimulatedAnswer sim files library file source)
+one_simulated_answer laws sim files library (Some file) (Some source) =
+    one_under_answer laws.judge (IsSimAnswer sim file.name source.text)
+    (λ d. one_stimulated laws.run sim file.name d (stim source.text (Some d.ports))) files library sim.top
+one_simulated_answer laws sim files library (Some file) None = one_is not_there
+one_simulated_answer laws sim files library None source = one_is not_there
 
 one_task_answer : Laws → (task : Task) (files : List NamedFile) (sources : List Source) (library : List Units) → IsOne (IsTaskAnswer task files sources library)
-one_task_answer laws (Play play) files sources library = one_play_answer play.until (slice_get files play.stim) (slice_get sources play.stim)
+one_task_answer laws (Play play) files sources library = one_play_answer laws.run play.until (slice_get files play.stim) (slice_get sources play.stim)
 one_task_answer laws Check files sources library = one_cells_answer laws.first files library
-one_task_answer laws (Tree tree) files sources library = one_tree_answer laws.judge files library tree.top
+one_task_answer laws (Tree tree) files sources library = one_under_answer laws.judge IsTreeAnswer one_tree_answer files library tree.top
+one_task_answer laws (Sim sim) files sources library = one_simulated_answer laws sim files library (slice_get files sim.stim) (slice_get sources sim.stim)
 
 one_library_refusal : (error : LibraryError) → (error ≡ library.NoMemory → ⊥) → IsOne (IsLibraryRefusal error)
 one_library_refusal (library.TooManyUnits place) some = one_is (refusals.Limit UnitsLimit place)

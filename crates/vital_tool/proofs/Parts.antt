@@ -1,5 +1,5 @@
 -- A text that calls write part by part.
-use Rattle.std.proofs.Common.{◌≡◌, ℕ, ◌+◌, zero, suc, ◌<◌, ◌≤◌, false, List, [], ◌∷◌, ◌++◌, length, take, drop, get_or, map, Some, Result, Ok, Err, refl, sym, ap, subst, ◌∙◌, append_assoc, arith}
+use Rattle.std.proofs.Common.{◌≡◌, ℕ, ◌+◌, zero, suc, ◌<◌, ◌≤◌, false, List, [], ◌∷◌, ◌++◌, length, take, drop, get_or, Some, Result, Ok, Err, refl, sym, ap, subst, ◌∙◌, append_assoc, arith}
 use Rattle.std.proofs.lemmas.Grind.{flat_map-append}
 use Rattle.std.proofs.Math.Seq.{take-append_seam}
 use Rattle.std.proofs.lemmas.List.{append-nil, drop_more, drop_all, take-append-drop}
@@ -7,19 +7,16 @@ use Rattle.std.specs.Prelude.{slice_get}
 use Rattle.std.specs.Result.{IsErrAnd}
 use Rattle.std.proofs.lemmas.Result.{err_from_is_err_and}
 use Rattle.vital_base.specs.declared.ports.PortBit.{PortBit}
-use Rattle.vital_report.specs.Lines.{Said, version, init, end, bytes_of}
-use Rattle.vital_report.specs.Reporters.{PrinterState, Printed, Stopped, Prints}
+use Rattle.vital_report.specs.Lines.{bytes_of, end, init, text_of, version}
+use Rattle.vital_kernel.specs.PortRuns.{idle_drivers, port_events_until, port_inits, port_lines, sent_to}
+use Rattle.vital_report.specs.Reporters.{Printed, PrinterState, Prints, PrintsPart, Stopped}
 use Rattle.vital_stim.specs.declared.stimuli.StimLine.{StimLine}
 use Rattle.vital_agenda.specs.Driver.{Driver, currents}
 use Rattle.vital_logic.specs.declared.level.Level.{Level}
-use Rattle.vital_tool.specs.Answer.{text_of}
-use Rattle.vital_tool.specs.Outcome.{PrintsPart}
-use Rattle.vital_tool.specs.Stimuli.{event_line}
-use Rattle.vital_tool.specs.Ports.{port_inits, port_run, port_lines, cycles_text, sent_to}
-use Rattle.vital_tool.specs.declared.lines.PrintError.{PrintError}
-use Rattle.vital_tool.specs.declared.lines.PrintError.TheVariants as play
-use Rattle.vital_tool.proofs.Printing.{text_of_events}
-use Rattle.vital_tool.proofs.Sending.{current-sent}
+use Rattle.vital_tool.specs.Ports.{cycles_text}
+use Rattle.vital_tool.specs.Runs.{run_text}
+use Rattle.vital_report.specs.declared.print_error.PrintError.{PrintError}
+use Rattle.vital_report.specs.declared.print_error.PrintError.TheVariants as error
 use Rattle.vital_tool.proofs.Texts.{printed_none, printed_then, stopped_then, stopped_within}
 
 -- a front of a whole text was printed, and this rest of it is left
@@ -85,67 +82,56 @@ one_init ports ds i p v lt got =
 pub no_init : (ports : List PortBit) (ds : List Driver) (i : ℕ) → length ports ≤ i → inits_text (drop i ports) ds ≡ []
 no_init ports ds i le = ap (λ (ps : List PortBit). inits_text ps ds) (drop_all i ports le)
 
--- lines that are sent leave it as it is
-pub inits_sent : (lines : List StimLine) (ports : List PortBit) (ds : List Driver) → inits_text ports (sent_to lines ds) ≡ inits_text ports ds
-inits_sent lines ports ds = ap text_of (same_inits ports (sent_to lines ds) ds (current-sent lines ds))
-  where
-    same_inits : (ports : List PortBit) (ds es : List Driver) → currents ds ≡ currents es → port_inits ports ds ≡ port_inits ports es
-    same_inits [] ds es h = refl
-    same_inits (p ∷ ports) [] [] h = refl
-    same_inits (p ∷ ports) [] (e ∷ es) h = absurd cc
-    same_inits (p ∷ ports) (d ∷ ds) [] h = absurd cc
-    same_inits (p ∷ ports) (d ∷ ds) (e ∷ es) h =
-        let value : d.current ≡ e.current = cc in
-        let values : currents ds ≡ currents es = cc in
-        ap (λ (v : Level). init p.name v ∷ port_inits ports ds) value ∙ ap (λ (rest : List Said). init p.name e.current ∷ rest) (same_inits ports ds es values)
-
 -- the parts of a run's text after its first line
-abbrev pub after_version : List PortBit → List Driver → ℕ → List ℕ
-after_version ports ds until = inits_text ports ds ++ (cycles_text ports ds until ++ (bytes_of (end until) ++ []))
+abbrev pub after_version : ℕ → List PortBit → List StimLine → List ℕ
+after_version until ports lines =
+    let ds = idle_drivers ports in
+    inits_text ports ds ++ (cycles_text ports (sent_to lines ds) until ++ (bytes_of (end until) ++ []))
 
 -- the text of a run is its first line, its values, its events and its last line
-run_text : (ports : List PortBit) (ds : List Driver) (until : ℕ) → text_of (port_lines ports ds until) ≡ bytes_of version ++ after_version ports ds until
-run_text ports ds until =
+run_text_is : (until : ℕ) (ports : List PortBit) (lines : List StimLine) → run_text (port_lines ports lines until) (end until) ≡ bytes_of version ++ after_version until ports lines
+run_text_is until ports lines =
+    let ds = idle_drivers ports in
     let inits = port_inits ports ds in
-    let happened = port_run ports ds until in
-    ap (λ (rest : List ℕ). bytes_of version ++ rest)
-    (ap text_of (append_assoc inits (map event_line happened) (end until ∷ []))
-    ∙ flat_map-append bytes_of inits (map event_line happened ++ end until ∷ [])
-    ∙ ap (λ (rest : List ℕ). text_of inits ++ rest)
-    (flat_map-append bytes_of (map event_line happened) (end until ∷ []) ∙ ap (λ (front : List ℕ). front ++ (bytes_of (end until) ++ [])) (text_of_events happened)))
+    let happened = port_events_until until ports (sent_to lines ds) in
+    append_assoc (bytes_of version) (text_of (inits ++ happened)) (bytes_of (end until))
+    ∙ ap (λ (rest : List ℕ). bytes_of version ++ rest)
+    (ap (λ (front : List ℕ). front ++ bytes_of (end until)) (flat_map-append bytes_of inits happened)
+    ∙ append_assoc (text_of inits) (text_of happened) (bytes_of (end until))
+    ∙ ap (λ (last : List ℕ). text_of inits ++ (text_of happened ++ last)) (sym (append-nil (bytes_of (end until)))))
 
 -- a fault that is passed on
 pub prints_failed : {T E : Type 0} (Q : E → Type 0) (r : Result T E) (whole : List ℕ) (start next : PrinterState) → IsErrAnd r Q → Stopped whole start next → Prints r whole start next
 prints_failed Q r whole start next failed w = let p = err_from_is_err_and r failed in rw p.1 w
 
 -- the sink failed, and that is passed on
-pub play_stops : {T : Type 0} (r : Result T PrintError) (whole : List ℕ) (start next : PrinterState) → IsErrAnd r (λ e. e ≡ play.WriteFault) → Stopped whole start next → PrintsPart r whole start next
-play_stops r whole start next failed w =
+pub passes_fault : {T : Type 0} (r : Result T PrintError) (whole : List ℕ) (start next : PrinterState) → IsErrAnd r (λ e. e ≡ error.WriteFault) → Stopped whole start next → PrintsPart r whole start next
+passes_fault r whole start next failed w =
     let p = err_from_is_err_and r failed in
-    let is : r ≡ Err play.WriteFault = p.1 ∙ ap (λ (e : PrintError). Err e) p.2 in rw is w
+    let is : r ≡ Err error.WriteFault = p.1 ∙ ap (λ (e : PrintError). Err e) p.2 in rw is w
 
 -- memory ran out, and that is passed on
-pub play_breaks : {T : Type 0} (r : Result T PrintError) (whole : List ℕ) (start next : PrinterState) → IsErrAnd r (λ e. e ≡ play.NoMemory) → (count : ℕ) × Printed (take count whole) start next
+pub passes_no_memory : {T : Type 0} (r : Result T PrintError) (whole : List ℕ) (start next : PrinterState) → IsErrAnd r (λ e. e ≡ error.NoMemory) → (count : ℕ) × Printed (take count whole) start next
     → PrintsPart r whole start next
-play_breaks r whole start next failed w =
+passes_no_memory r whole start next failed w =
     let p = err_from_is_err_and r failed in
-    let is : r ≡ Err play.NoMemory = p.1 ∙ ap (λ (e : PrintError). Err e) p.2 in rw is w
+    let is : r ≡ Err error.NoMemory = p.1 ∙ ap (λ (e : PrintError). Err e) p.2 in rw is w
 
 -- a piece failed, and that is passed on
-pub play_failed : {T : Type 0} (U : Type 0) (r : Result T PrintError) (e : PrintError) (start : PrinterState) (whole piece rest : List ℕ) (now next : PrinterState) → IsErrAnd r (λ x. x ≡ e)
+pub passes_failure : {T : Type 0} (U : Type 0) (r : Result T PrintError) (e : PrintError) (start : PrinterState) (whole piece rest : List ℕ) (now next : PrinterState) → IsErrAnd r (λ x. x ≡ e)
     → Part start whole (piece ++ rest) now → PrintsPart {T = U} (Err e) piece now next → PrintsPart r whole start next
-play_failed U r play.WriteFault start whole piece rest now next failed p w = play_stops r whole start next failed (part_stops start whole piece rest now next p w)
-play_failed U r play.NoMemory start whole piece rest now next failed p w = play_breaks r whole start next failed (part_breaks_in start whole piece rest now next p w)
+passes_failure U r error.WriteFault start whole piece rest now next failed p w = passes_fault r whole start next failed (part_stops start whole piece rest now next p w)
+passes_failure U r error.NoMemory start whole piece rest now next failed p w = passes_no_memory r whole start next failed (part_breaks_in start whole piece rest now next p w)
 
 -- the first line of a run, from any printer on
-pub run_begins : (ports : List PortBit) (ds : List Driver) (until : ℕ) (start next : PrinterState) → Printed (bytes_of version) start next
-    → Part start (text_of (port_lines ports ds until)) (after_version ports ds until) next
-run_begins ports ds until start next p = record { front = bytes_of version; parts = sym (run_text ports ds until); printed = p }
+pub run_begins : (until : ℕ) (ports : List PortBit) (lines : List StimLine) (start next : PrinterState) → Printed (bytes_of version) start next
+    → Part start (run_text (port_lines ports lines until) (end until)) (after_version until ports lines) next
+run_begins until ports lines start next p = record { front = bytes_of version; parts = sym (run_text_is until ports lines); printed = p }
 
-pub run_stops : (ports : List PortBit) (ds : List Driver) (until : ℕ) (start next : PrinterState) → Stopped (bytes_of version) start next
-    → Stopped (text_of (port_lines ports ds until)) start next
-run_stops ports ds until start next p =
-    subst (λ (text : List ℕ). Stopped text start next) (sym (run_text ports ds until)) (stopped_within (bytes_of version) (after_version ports ds until) start next p)
+pub run_stops : (until : ℕ) (ports : List PortBit) (lines : List StimLine) (start next : PrinterState) → Stopped (bytes_of version) start next
+    → Stopped (run_text (port_lines ports lines until) (end until)) start next
+run_stops until ports lines start next p =
+    subst (λ (text : List ℕ). Stopped text start next) (sym (run_text_is until ports lines)) (stopped_within (bytes_of version) (after_version until ports lines) start next p)
 
 -- ---- two pieces one after the other
 

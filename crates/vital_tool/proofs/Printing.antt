@@ -1,20 +1,12 @@
 -- From what was printed to what a stage of a run did.
-use Rattle.std.proofs.Common.{◌≡◌, ◌≢◌, ℕ, false, List, [], ◌∷◌, ◌++◌, take, map, Option, Some, None, refl, sym, ap, subst, arith}
+use Rattle.std.proofs.Common.{◌≡◌, ◌≢◌, ℕ, false, take, Option, Some, None, refl, sym, subst, arith}
 use Rattle.std.specs.Prelude.{IfSome}
-use Rattle.std.specs.List.{flat_map}
 use Rattle.vital_report.specs.Reporters.{PrinterState, Printed, Stopped}
 use Rattle.vital_tool.specs.declared.status.Status.TheVariants.{ReadFault, WriteFault, NoMemory}
 use Rattle.vital_tool.specs.declared.status.Status.{Status}
-use Rattle.vital_tool.specs.Run.{Event}
-use Rattle.vital_tool.specs.Answer.{Answer, text_of}
-use Rattle.vital_tool.specs.Stimuli.{event_line, text_of_event}
+use Rattle.vital_tool.specs.Answer.{Answer}
 use Rattle.vital_tool.specs.Outcome.{PrintsAnswer, Stage, all, until_fault, until_no_memory}
 use Rattle.vital_tool.proofs.Texts.{printed_none, stopped_rose}
-
--- the text of the lines of events
-pub text_of_events : (happened : List Event) → text_of (map event_line happened) ≡ flat_map text_of_event happened
-text_of_events [] = refl
-text_of_events (e ∷ es) = ap (λ (rest : List ℕ). text_of_event e ++ rest) (text_of_events es)
 
 -- all was printed
 pub stage_prints : (answer : Answer) (old new : PrinterState) → answer.status ≢ ReadFault → answer.status ≢ WriteFault → Printed answer.bytes old new

@@ -1,15 +1,22 @@
--- The definitions of drivers and runs on worked rows, of which the answers were found by hand.
-use Rattle.std.proofs.Common.{◌≡◌, ℕ, List, [], ◌∷◌, Some, None, refl}
-use Rattle.std.specs.Prelude.{codes}
+-- The definitions of drivers and of what is answered to runs on worked rows, of which the answers were found by hand.
+use Rattle.std.proofs.Common.{◌≡◌, ℕ, List, [], ◌∷◌, ◌++◌, Option, Some, true, refl}
+use Rattle.std.specs.Prelude.{codes, decimal}
+use Rattle.std.specs.Option.{option_map}
+use Rattle.vital_base.specs.declared.ports.PortBit.{PortBit}
 use Rattle.vital_base.specs.declared.kind.Kind.TheVariants.{Transport, Inertial}
 use Rattle.vital_logic.specs.declared.level.Level.{Level}
 use Rattle.vital_logic.specs.declared.level.Level.TheVariants.{U, X, Zero, One, Z}
 use Rattle.vital_agenda.specs.Driver.{Driver, pending_after, send}
 use Rattle.vital_stim.specs.declared.stimuli.StimLine.{StimLine}
-use Rattle.vital_tool.specs.Ports.{due_lines, later_lines}
-use Rattle.vital_tool.specs.Run.{Signal, State, ended, passed, cycle, step}
-use Rattle.vital_tool.specs.Stimuli.{unasked}
 use Rattle.vital_agenda.specs.declared.transaction.Transaction.{Transaction}
+use Rattle.vital_kernel.specs.Lines.{run_lines}
+use Rattle.vital_report.specs.Lines.{event, init, line_of, text_of}
+use Rattle.vital_network.specs.PortNetworks.{port_network}
+use Rattle.vital_kernel.specs.Runs.{whole_run}
+use Rattle.vital_tool.specs.Answer.{Answer}
+use Rattle.vital_tool.specs.Ports.{due_lines, later_lines}
+use Rattle.vital_tool.specs.Runs.{run_answer}
+use Rattle.vital_tool.specs.declared.status.Status.TheVariants.{DeltaLimit, Done}
 
 abbrev at : ℕ → Level → Transaction
 at time value = record { time = time; value = value }
@@ -67,35 +74,35 @@ no_line_is_due_at_another_time = refl
 then_all_come_later : later_lines 6 (line 5 0 One ∷ line 6 0 X ∷ []) ≡ line 5 0 One ∷ line 6 0 X ∷ []
 then_all_come_later = refl
 
--- ---- steps
+-- ---- the answer to a run
 
-abbrev signal : Level → List Transaction → Level → Signal
-signal value pending last = record {
-  name = codes "a";
-  default = U;
-  drivers = driver value pending ∷ [];
-  value = value;
-  last_value = last;
-  last_event = None;
-}
+abbrev input : List ℕ → PortBit
+input name = record { name = name; input = true; initial = 85 }
 
-abbrev state : ℕ → ℕ → Signal → State
-state now delta of_one = record { now = now; delta = delta; signals = of_one ∷ [] }
+-- What is answered to the run of inputs a and b, which begin as U.
+abbrev played : ℕ → ℕ → List StimLine → Option Answer
+played until limit lines =
+    let n = port_network (input (codes "a") ∷ input (codes "b") ∷ []) in
+    option_map (λ r. run_answer until limit (run_lines n r.happened) r.end) (whole_run n lines until limit)
 
--- the next cycle is at the least pending time, with delta number 0, and its event has the new value
-a_cycle_comes : step unasked 9 2 (state 0 1 (signal Zero (at 5 One ∷ at 9 Z ∷ []) U))
-    ≡ cycle (record { time = 5; delta = 0; name = codes "a"; value = One } ∷ [])
-    (state 5 0 (record { name = codes "a"; default = U; drivers = driver One (at 9 Z ∷ []) ∷ []; value = One; last_value = Zero; last_event = Some 5 }))
-a_cycle_comes = refl
+-- at 20 b gets the value that it has, and at 30 the run has ended
+a_run_is_told_between_its_first_line_and_its_end :
+    played 25 1_000 (line 0 0 Zero ∷ line 0 1 One ∷ line 10 0 One ∷ line 20 1 One ∷ line 30 0 Z ∷ [])
+    ≡ Some (record {
+      bytes = line_of (codes "vital") (decimal 1 ∷ [])
+          ++ text_of (init (codes "a") U ∷ init (codes "b") U ∷ event 0 1 (codes "a") Zero ∷ event 0 1 (codes "b") One ∷ event 10 0 (codes "a") One ∷ [])
+          ++ line_of (codes "end") (decimal 25 ∷ []);
+      status = Done;
+    })
+a_run_is_told_between_its_first_line_and_its_end = refl
 
--- a cycle at the present time has the next delta number; the same value is no event, and the last one is as before
-the_same_value_is_no_event : step unasked 9 3 (state 5 1 (signal One (at 5 One ∷ []) U)) ≡ cycle [] (state 5 2 (signal One [] U))
-the_same_value_is_no_event = refl
-
--- no cycle begins whose delta number is the limit
-the_limit_is_passed : step unasked 9 2 (state 5 1 (signal Zero (at 5 One ∷ []) U)) ≡ passed 5
-the_limit_is_passed = refl
-
--- nothing is pending up to the end time
-a_run_ends : step unasked 8 2 (state 5 1 (signal Zero (at 9 One ∷ []) U)) ≡ ended
-a_run_ends = refl
+-- the first cycle at 0 has the delta number 1
+a_run_ends_before_the_limit :
+    played 25 1 (line 0 0 Zero ∷ [])
+    ≡ Some (record {
+      bytes = line_of (codes "vital") (decimal 1 ∷ [])
+          ++ text_of (init (codes "a") U ∷ init (codes "b") U ∷ [])
+          ++ line_of (codes "refused delta") (decimal 0 ∷ decimal 1 ∷ []);
+      status = DeltaLimit;
+    })
+a_run_ends_before_the_limit = refl

@@ -8,18 +8,15 @@ use Rattle.vital_stim.specs.declared.stimuli.StimLine.{StimLine}
 use Rattle.vital_agenda.specs.Agendas.{Content, assigned, changed}
 use Rattle.vital_agenda.specs.Agendas.{idle_driver as idle}
 use Rattle.vital_agenda.specs.Driver.{AllRise, Driver, currents, send, with_new, pending_count}
-use Rattle.vital_tool.specs.Play.{idle_driver, initial_level}
-use Rattle.vital_tool.specs.Ports.{ComeFrom, idle_drivers, sent_to}
-use Rattle.vital_tool.proofs.Rising.{with_new_rises}
+use Rattle.vital_network.specs.DesignNetworks.{initial_level}
+use Rattle.vital_kernel.specs.PortRuns.{idle_drivers, sent_to}
+use Rattle.vital_kernel.proofs.PortRuns.{current-changed, length-changed}
+use Rattle.vital_kernel.proofs.Rising.{with_new_rises}
+use Rattle.vital_tool.specs.Ports.{ComeFrom}
 
 pub come_lower : (ports low high : ℕ) (lines : List StimLine) → low ≤ high → ComeFrom ports high lines → ComeFrom ports low lines
 come_lower ports low high [] le h = tt
 come_lower ports low high (line ∷ lines) le h = (h.0, omega (arith, h.1), h.2, h.3)
-
-length-changed : (n : ℕ) (f : Driver → Driver) (ds : List Driver) → length (changed n f ds) ≡ length ds
-length-changed n f [] = refl
-length-changed zero f (d ∷ ds) = refl
-length-changed (suc n) f (d ∷ ds) = ap suc (length-changed n f ds)
 
 -- one line more is sent at its time
 pub send_is : (now delay : ℕ) (line : StimLine) (ds : List Driver) → now + delay ≡ 0 + line.time
@@ -32,33 +29,7 @@ changed_rise low n value delay [] le h = tt
 changed_rise low zero value delay (d ∷ ds) le h = (with_new_rises low (0 + delay) value d.pending h.0 (omega arith), h.1)
 changed_rise low (suc n) value delay (d ∷ ds) le h = (h.0, changed_rise low n value delay ds le h.1)
 
-idle_rise : (ports : List PortBit) → AllRise 0 (idle_drivers ports)
-idle_rise [] = tt
-idle_rise (p ∷ ports) = (tt, idle_rise ports)
-
-sent_rise : (lines : List StimLine) (ds : List Driver) → AllRise 0 ds → AllRise 0 (sent_to lines ds)
-sent_rise [] ds h = h
-sent_rise (line ∷ lines) ds h = sent_rise lines (changed line.port (send 0 Transport line.value line.time) ds) (changed_rise 0 line.port line.value line.time ds (omega arith) h)
-
--- after the initial run each driver's transactions rise
-pub all_rise_sent : (lines : List StimLine) (ports : List PortBit) → AllRise 0 (sent_to lines (idle_drivers ports))
-all_rise_sent lines ports = sent_rise lines (idle_drivers ports) (idle_rise ports)
-
-pub length-sent : (lines : List StimLine) (ds : List Driver) → length (sent_to lines ds) ≡ length ds
-length-sent [] ds = refl
-length-sent (line ∷ lines) ds = length-sent lines (changed line.port (send 0 Transport line.value line.time) ds) ∙ length-changed line.port (send 0 Transport line.value line.time) ds
-
--- ---- what drivers are worth
-
-pub current-changed : (n : ℕ) (now : ℕ) (value : Level) (delay : ℕ) (ds : List Driver) → currents (changed n (send now Transport value delay) ds) ≡ currents ds
-current-changed n now value delay [] = refl
-current-changed zero now value delay (d ∷ ds) = refl
-current-changed (suc n) now value delay (d ∷ ds) = ap (λ (vs : List Level). d.current ∷ vs) (current-changed n now value delay ds)
-
--- no stimulus changes the value of a driver
-pub current-sent : (lines : List StimLine) (ds : List Driver) → currents (sent_to lines ds) ≡ currents ds
-current-sent [] ds = refl
-current-sent (line ∷ lines) ds = current-sent lines (changed line.port (send 0 Transport line.value line.time) ds) ∙ current-changed line.port 0 line.value line.time ds
+-- ---- drivers at first
 
 pub current-idle : (values : List Level) → currents (map idle values) ≡ values
 current-idle [] = refl
@@ -67,7 +38,7 @@ current-idle (value ∷ values) = ap (λ (vs : List Level). value ∷ vs) (curre
 -- a driver with the first value of each port
 pub idle-ports : (ports : List PortBit) → map idle (map initial_level ports) ≡ idle_drivers ports
 idle-ports [] = refl
-idle-ports (p ∷ ports) = ap (λ (ds : List Driver). idle_driver p ∷ ds) (idle-ports ports)
+idle-ports (p ∷ ports) = ap (λ (ds : List Driver). idle (initial_level p) ∷ ds) (idle-ports ports)
 
 -- nothing is pending of them
 pub count-idle : (ports : List PortBit) → pending_count (idle_drivers ports) ≡ 0
@@ -98,5 +69,5 @@ sends lines i none delay whole start old new lt is delay_is had =
       now = now ∙ had.now;
       sent = ap (sent_to left) drivers ∙ sym (ap (λ (ls : List StimLine). sent_to ls old.drivers) (drop_more lines i none lt)) ∙ had.sent;
       come = rw (long, now) (come_lower (length old.drivers) old.now line.time left come.1 come.3);
-      same = ap currents drivers ∙ current-changed line.port 0 line.value line.time old.drivers ∙ had.same;
+      same = ap currents drivers ∙ current-changed line.port line.value line.time old.drivers ∙ had.same;
     }

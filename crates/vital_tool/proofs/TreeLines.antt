@@ -8,8 +8,7 @@ use Rattle.std.proofs.lemmas.List.FromFn.{get_or-enumerate_from, get_or-map-rang
 use Rattle.vital_netlist.specs.declared.design_lists.DesignInstance.{DesignInstance as DesignInstance'}
 use Rattle.vital_netlist.specs.Designs.{Design, DesignInstance, DesignSignal, drivers_of}
 use Rattle.vital_netlist.specs.Trees.{tree_instance, tree_instances, tree_signal, tree_signals}
-use Rattle.vital_report.specs.Lines.{bytes_of, end_of_design}
-use Rattle.vital_tool.specs.Answer.{text_of}
+use Rattle.vital_report.specs.Lines.{bytes_of, end_of_design, text_of}
 use Rattle.vital_tool.specs.Trees.{instance_line, signal_line, tree_lines}
 
 -- ---- things that are numbered and seen as others

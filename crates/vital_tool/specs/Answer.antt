@@ -1,6 +1,5 @@
 -- Answers: the bytes that are written, and the status. A refusal ends one.
 use Rattle.std.specs.Prelude.{ℕ, List, [], Result, Ok, Err}
-use Rattle.std.specs.List.{flat_map}
 use Rattle.vital_report.specs.Lines.{Said, bytes_of}
 use Rattle.vital_tool.specs.declared.status.Status.{Status}
 use Rattle.vital_tool.specs.declared.status.Status.TheVariants.{ReadFault}
@@ -14,10 +13,6 @@ infixl 10 ◌>>=◌
 abbrev pub ◌>>=◌ : {A B E : Type 0} → Result A E → (A → Result B E) → Result B E
 (Ok x) >>= f = f x
 (Err refusal) >>= f = Err refusal
-
--- The text of lines, one after the other.
-abbrev pub text_of : List Said → List ℕ
-text_of lines = flat_map bytes_of lines
 
 -- A refusal is one line, and ends the answer.
 abbrev pub refused : Said → Status → Answer

@@ -15,10 +15,10 @@ use Rattle.vital_names.specs.Sites.{Cell}
 use Rattle.vital_nodes.specs.declared.unit.Arch.{Arch}
 use Rattle.vital_nodes.specs.declared.unit.Entity.{Entity}
 use Rattle.vital_nodes.specs.declared.unit.Units.{Units}
-use Rattle.vital_report.specs.Lines.{Said, cell_broken, cell_level1, refused_limit}
+use Rattle.vital_report.specs.Lines.{Said, cell_broken, cell_level1, refused_limit, text_of}
 use Rattle.vital_report.specs.declared.line.Limit.{Limit as Limit'}
 use Rattle.vital_report.specs.declared.line.Limit.TheVariants.{Ports, Rows, Columns, Paths, Delay}
-use Rattle.vital_tool.specs.Answer.{Answer, text_of}
+use Rattle.vital_tool.specs.Answer.{Answer}
 use Rattle.vital_tool.specs.Refusals.{spot_of}
 use Rattle.vital_tool.specs.declared.status.Status.{Status}
 use Rattle.vital_tool.specs.declared.status.Status.TheVariants.{Done, Found, Limit}

@@ -1,5 +1,5 @@
 -- How what the calls of the stages return is read.
-use Rattle.std.specs.Prelude.{ℕ, ◌≡◌, List, Option, Some, None, Result, Ok, Err}
+use Rattle.std.specs.Prelude.{ℕ, ◌≡◌, ◌≤◌, ◌^◌, List, length, Option, Some, None, Result, Ok, Err}
 use Rattle.vital_library.specs.declared.error.LibraryError.{LibraryError}
 use Rattle.vital_library.specs.declared.error.LibraryError.TheVariants as library
 use Rattle.vital_netlist.specs.Refusals.{Refusal as NetRefusal}
@@ -7,7 +7,12 @@ use Rattle.vital_nodes.specs.declared.unit.Units.{Units}
 use Rattle.vital_tool.specs.Answer.{Answer}
 use Rattle.vital_tool.specs.Loading.{too_long}
 use Rattle.vital_tool.specs.Refusals.{IsFileRefusal, IsLibraryRefusal}
-use Rattle.vital_tool.specs.Trees.{refused_design}
+use Rattle.vital_tool.specs.Designs.{refused_design}
+use Rattle.vital_tool.specs.Simulations.{IsSimAnswer}
+use Rattle.vital_tool.specs.Trees.{IsTreeAnswer}
+use Rattle.vital_tool.specs.declared.elaborating.Aim.{Aim}
+use Rattle.vital_tool.specs.declared.elaborating.Aim.TheVariants as aim
+use Rattle.vital_netlist.specs.Designs.{Design}
 use Rattle.vital_tool.specs.declared.loading.NotLoaded.{NotLoaded}
 use Rattle.vital_tool.specs.declared.loading.NotLoaded.TheVariants as loading
 use Rattle.vital_tool.specs.declared.loading.Source.{Source}
@@ -46,3 +51,13 @@ GivesRefusal error None = error ≡ library.NoMemory
 abbrev pub GivesDesignRefusal : List NamedFile → List ℕ → Option NetRefusal → Answer → Type 0
 GivesDesignRefusal files top (Some refusal) answer = answer ≡ refused_design files top refusal
 GivesDesignRefusal files top None answer = Unit {0}
+
+-- What is done with a design: it is printed, or simulated.
+abbrev pub IsAimAnswer : Aim → Design → Answer → Type 0
+IsAimAnswer aim.Tree d answer = IsTreeAnswer d answer
+IsAimAnswer (aim.Sim s) d answer = IsSimAnswer s.sim.now s.name.now s.text.now d answer
+
+-- Its file is no longer than files are, and its end time and limit are in bounds.
+abbrev pub CanAnswer : Aim → Type 0
+CanAnswer aim.Tree = Unit {0}
+CanAnswer (aim.Sim s) = (length s.text.now ≤ 16_777_216) × (s.sim.now.until ≤ 2 ^ 60) × (1 ≤ s.sim.now.limit)

@@ -4,8 +4,6 @@ use Rattle.vital_base.specs.Faults.{Rose}
 use Rattle.vital_base.specs.Shelves.{Files}
 use Rattle.vital_base.specs.Sinks.{Told, appended, AppendsPrefix}
 use Rattle.vital_report.specs.Reporters.{PrinterState, Printed, Stopped}
-use Rattle.vital_tool.specs.declared.lines.PrintError.{PrintError}
-use Rattle.vital_tool.specs.declared.lines.PrintError.TheVariants as play
 use Rattle.vital_tool.specs.declared.status.Status.{Status}
 use Rattle.vital_tool.specs.declared.status.Status.TheVariants.{ReadFault, WriteFault, NoMemory}
 use Rattle.vital_tool.specs.Answer.{Answer}
@@ -33,12 +31,6 @@ pub data PrintsAnswer (answer : Answer) (status : Status) (old new : PrinterStat
   nothing : status ≡ ReadFault → new ≡ old → PrintsAnswer answer status old new
   until_fault : status ≡ WriteFault → Stopped answer.bytes old new → PrintsAnswer answer status old new
   until_no_memory : status ≡ NoMemory → (count : ℕ) × Printed (take count answer.bytes) old new → PrintsAnswer answer status old new
-
--- A call that plays a part of a run prints its text; or a prefix of that, where writing or memory failed.
-abbrev pub PrintsPart : {T : Type 0} → Result T PrintError → List ℕ → PrinterState → PrinterState → Type 0
-PrintsPart (Ok x) text old new = Printed text old new
-PrintsPart (Err play.WriteFault) text old new = Stopped text old new
-PrintsPart (Err play.NoMemory) text old new = (count : ℕ) × Printed (take count text) old new
 
 -- What a stage that reads no file did, for whatever is the answer: what it printed of that, whether its printer goes on, and what
 -- became of the sink's count of faults.

@@ -9,7 +9,9 @@ use Rattle.vital_tool.specs.Answer.{Answer, not_there}
 use Rattle.vital_tool.specs.Cells.{IsCellsAnswer}
 use Rattle.vital_tool.specs.Loading.{all_loaded}
 use Rattle.vital_tool.specs.Reading.{AreRead}
+use Rattle.vital_tool.specs.Designs.{IsUnderAnswer}
 use Rattle.vital_tool.specs.Refusals.{refused_words, refused_at, IsLibraryRefusal}
+use Rattle.vital_tool.specs.Simulations.{IsSimAnswer}
 use Rattle.vital_tool.specs.Stimuli.{IsTextAnswer}
 use Rattle.vital_tool.specs.Trees.{IsTreeAnswer}
 use Rattle.vital_tool.specs.declared.loading.Source.{Source}
@@ -18,8 +20,9 @@ use Rattle.vital_nodes.specs.declared.unit.Units.{Units}
 use Rattle.vital_words.specs.Jobs.{job}
 use Rattle.vital_words.specs.declared.job.Job.{Job}
 use Rattle.vital_words.specs.declared.job.NamedFile.{NamedFile}
+use Rattle.vital_words.specs.declared.job.Sim.{Sim as Sim'}
 use Rattle.vital_words.specs.declared.job.Task.{Task}
-use Rattle.vital_words.specs.declared.job.Task.TheVariants.{Play, Check, Tree}
+use Rattle.vital_words.specs.declared.job.Task.TheVariants.{Check, Play, Sim, Tree}
 use Rattle.vital_words.specs.declared.refusal.UsageFault.{UsageFault}
 
 -- What `play` answers to its stimulus file.
@@ -28,12 +31,21 @@ IsPlayAnswer until (Some file) (Some source) answer = IsTextAnswer file.name unt
 IsPlayAnswer until (Some file) None answer = answer ≡ not_there
 IsPlayAnswer until None source answer = answer ≡ not_there
 
+-- What `sim` answers to its stimulus file and the library.
+abbrev pub IsSimulatedAnswer : Sim' → List NamedFile → List Units → Option NamedFile → Option Source → Answer → Type 0
+IsSimulatedAnswer sim files library (Some file) (Some source) answer =
+    IsUnderAnswer (IsSimAnswer sim file.name source.text) files library sim.top answer
+IsSimulatedAnswer sim files library (Some file) None answer = answer ≡ not_there
+IsSimulatedAnswer sim files library None source answer = answer ≡ not_there
+
 -- What a task makes of its files and their library.
 abbrev pub IsTaskAnswer : Task → List NamedFile → List Source → List Units → Answer → Type 0
 IsTaskAnswer (Play play) files sources library answer =
     IsPlayAnswer play.until (slice_get files play.stim) (slice_get sources play.stim) answer
 IsTaskAnswer Check files sources library answer = IsCellsAnswer files library answer
-IsTaskAnswer (Tree tree) files sources library answer = IsTreeAnswer files library tree.top answer
+IsTaskAnswer (Tree tree) files sources library answer = IsUnderAnswer IsTreeAnswer files library tree.top answer
+IsTaskAnswer (Sim sim) files sources library answer =
+    IsSimulatedAnswer sim files library (slice_get files sim.stim) (slice_get sources sim.stim) answer
 
 -- What is answered to files that were joined into a library, or refused.
 abbrev pub IsLibraryAnswer : Job → List Source → Result (List Units) LibraryError → Answer → Type 0

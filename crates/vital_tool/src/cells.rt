@@ -2,9 +2,8 @@
 
 ghost use Rattle.std.specs.Prelude.{◌≡◌, ◌≤◌, ◌++◌, false, length, map, List};
 ghost use Rattle.vital_nodes.specs.declared.unit.Units.{Units};
-ghost use Rattle.vital_report.specs.Lines.{said};
+ghost use Rattle.vital_report.specs.Lines.{said, text_of};
 ghost use Rattle.vital_report.specs.Reporters.{Prints};
-ghost use Rattle.vital_tool.specs.Answer.{text_of};
 ghost use Rattle.vital_tool.specs.Cells.{IsCellsAnswer, level_line as level_line', level_lines, limit_line as limit_line', limit_lines, printed_limit as printed_limit'};
 ghost use Rattle.vital_tool.specs.Kept.{lent};
 ghost use Rattle.vital_tool.specs.Outcome.{Stage};

@@ -4,16 +4,16 @@ ghost use Rattle.std.specs.Prelude.{◌≡◌, ◌==◌, ◌-◌, ◌^◌, ◌<�
 ghost use Rattle.std.specs.List.{prefix_len, slice_get};
 ghost use Rattle.std.specs.Option.{option_map};
 ghost use Rattle.vital_agenda.specs.Driver.{pending_count};
-ghost use Rattle.vital_report.specs.Reporters.{Prints};
-ghost use Rattle.vital_tool.specs.Answer.{text_of};
-ghost use Rattle.vital_tool.specs.Outcome.{PrintsPart};
-ghost use Rattle.vital_tool.specs.Ports.{ComeFrom, port_inits, port_lines, cycles_text, sent_to, due_lines, later_lines};
-ghost use Rattle.vital_tool.specs.Run.{delta_at, up_to};
+ghost use Rattle.vital_report.specs.Lines.{end, text_of};
+ghost use Rattle.vital_kernel.specs.PortRuns.{idle_drivers, port_inits, port_lines, sent_to};
+ghost use Rattle.vital_kernel.specs.Runs.{delta_at, up_to};
+ghost use Rattle.vital_report.specs.Reporters.{Prints, PrintsPart};
+ghost use Rattle.vital_tool.specs.Ports.{ComeFrom, cycles_text, due_lines, later_lines};
+ghost use Rattle.vital_tool.specs.Runs.{run_text};
 
-use crate::lines::PrintError;
 use crate::signals::Signals;
 use vital_base::{PortBit, Sink, Time, WriteFault};
-use vital_report::{Line, Printer};
+use vital_report::{Line, PrintError, Printer};
 use vital_stim::StimLine;
 
 /// Runs the signals of the ports up to the end time, and prints the lines of the run. A line of the stimuli is handed to the
@@ -26,11 +26,9 @@ pub fn play<K: Sink>(
     until: Time,
     printer: &mut Printer<'_, K>,
 ) -> Result<(), PrintError>
-    requires one_each { length ports.now ≡ length signals.old.drivers }
-    requires idle { pending_count signals.old.drivers ≡ 0 }
-    requires start { signals.old.now ≡ 0 }
+    requires begun { signals.old ≡ record { now = 0; drivers = idle_drivers ports.now } }
     requires come { ComeFrom (length ports.now) 0 lines.now }
-    ensures { PrintsPart result (text_of (port_lines ports.now (sent_to lines.now signals.old.drivers) until)) printer.old printer.new }
+    ensures { PrintsPart result (run_text (port_lines ports.now lines.now until) (end until)) printer.old printer.new }
 {
     printer.print(&Line::Version)?;
     print_inits(ports, signals, printer)?;

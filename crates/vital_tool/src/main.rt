@@ -12,6 +12,7 @@ mod reading;
 mod refusal;
 mod run;
 mod signals;
+mod simulating;
 mod stages;
 mod status;
 mod stimuli;

@@ -5,10 +5,10 @@ ghost use Rattle.vital_netlist.specs.Refusals as net;
 ghost use Rattle.vital_report.specs.Lines.{refused_netlist, said};
 ghost use Rattle.vital_tool.specs.Given.{GivesDesignRefusal};
 ghost use Rattle.vital_tool.specs.Outcome.{Stage};
-ghost use Rattle.vital_tool.specs.Trees as spec;
+ghost use Rattle.vital_tool.specs.Designs as spec;
 
 use crate::cells::limit_line;
-use crate::lines::refuse;
+use crate::lines::end_with;
 use crate::refusal::position_of;
 use crate::status::Status;
 use vital_base::{Breach, Sink};
@@ -103,8 +103,8 @@ pub fn refuse_design<K: Sink>(
     ensures { Stage (GivesDesignRefusal files.now top.now (net.lent_error error.entry)) result printer.old printer.new }
 {
     match error {
-        ElabError::Net(fault) => refuse(&net_line(files, top, fault), Status::Netlist, printer),
-        ElabError::Limit(limit) => refuse(&net_limit_line(files, limit), Status::Limit, printer),
+        ElabError::Net(fault) => end_with(&net_line(files, top, fault), Status::Netlist, printer),
+        ElabError::Limit(limit) => end_with(&net_limit_line(files, limit), Status::Limit, printer),
         ElabError::NoMemory => Status::NoMemory,
     }
 }

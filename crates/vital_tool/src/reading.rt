@@ -55,7 +55,7 @@ fn role_of(kind: FileKind) -> Option<Role>
 /// grammar serves all of them.
 pub fn read_files(alloc: Global, rules: &Rules, sources: &[Source]) -> Result<List<Units>, Unread>
     requires grammar { rules.now ≡ grammar }
-    requires few { length sources.now ≤ 17 }
+    requires few { length sources.now ≤ 18 }
     requires within { All (λ source. length source.text ≤ 16_777_216) sources.now }
     ensures gives { (outcome : Result (List' Units') Refusal') → AreRead 0 4_194_304 sources.now outcome → GivesUnits result outcome }
     ensures read { IfOk result (All IsFromText) }

@@ -6,7 +6,7 @@ ghost use Rattle.vital_tool.specs.Refusals.{place_of, printed_usage, refused_at,
 ghost use Rattle.vital_tool.specs.Given.{GivesRefusal};
 ghost use Rattle.vital_tool.specs.Outcome.{Stage};
 
-use crate::lines::refuse;
+use crate::lines::end_with;
 use crate::status::Status;
 use vital_base::{Place, Sink};
 use vital_library::LibraryError;
@@ -54,19 +54,19 @@ pub fn refuse_files<K: Sink>(
     match refusal {
         Refusal::Lexical { why, .. } => {
             let line = Line::RefusedLexical { at, why };
-            refuse(&line, Status::Syntax, printer)
+            end_with(&line, Status::Syntax, printer)
         }
         Refusal::Syntax { .. } => {
             let line = Line::RefusedSyntax { at };
-            refuse(&line, Status::Syntax, printer)
+            end_with(&line, Status::Syntax, printer)
         }
         Refusal::Limit { limit, .. } => {
             let line = Line::RefusedLimit { limit, at };
-            refuse(&line, Status::Limit, printer)
+            end_with(&line, Status::Limit, printer)
         }
         Refusal::Library { why, .. } => {
             let line = Line::RefusedLibrary { why, at };
-            refuse(&line, Status::Library, printer)
+            end_with(&line, Status::Library, printer)
         }
     }
 }
@@ -95,7 +95,7 @@ pub fn refuse_words<K: Sink>(fault: UsageFault, printer: &mut Printer<'_, K>) ->
         word: fault.word,
         why: printed_usage(fault.why),
     };
-    refuse(&line, Status::Usage, printer)
+    end_with(&line, Status::Usage, printer)
 }
 
 /// Why words are refused, as it is printed.

@@ -14,6 +14,7 @@ use crate::status::Status;
 use std::alloc::Global;
 use vital_base::{Shelf, Sink, Word, WriteFault};
 use vital_instances::one_judge;
+use vital_kernel::{one_run, port_run};
 use vital_level0::one_first_breach;
 use vital_report::{Printer, Reporter};
 use vital_vhdl::one_reading;
@@ -56,6 +57,8 @@ pub fn run<S: Shelf, K: Sink>(
     one_reading();
     one_first_breach();
     one_judge();
+    one_run();
+    port_run();
     let Ok(reporter) = Reporter::new(alloc) else {
         return Status::NoMemory;
     };

@@ -1,9 +1,10 @@
 ghost use Rattle.std.specs.Prelude.{◌≡◌, ◌^◌, ◌<◌, false, length, map, All, Some, IfOk, OnOk, slice_get};
 ghost use Rattle.vital_agenda.specs.Agendas.{advanced};
 ghost use Rattle.vital_agenda.specs.Driver.{currents, next_time};
+ghost use Rattle.vital_network.specs.DesignNetworks.{initial_level};
+ghost use Rattle.vital_kernel.specs.PortRuns.{idle_drivers, sent_to};
 ghost use Rattle.vital_report.specs.Reporters.{Prints};
-ghost use Rattle.vital_tool.specs.Play.{initial_level};
-ghost use Rattle.vital_tool.specs.Ports.{ComeFrom, idle_drivers, sent_to, cycle_text, due_text, value_text, updated};
+ghost use Rattle.vital_tool.specs.Ports.{ComeFrom, cycle_text, due_text, value_text, updated};
 
 use std::alloc::{AllocError, Global};
 use std::marker::Model;

@@ -1,19 +1,20 @@
 //! The stages of a job, in their order.
 
-ghost use Rattle.std.specs.Prelude.{◌≡◌, ◌≤◌, false, length, All, Ok};
+ghost use Rattle.std.specs.Prelude.{◌≡◌, ◌<◌, ◌≤◌, false, length, All, Ok};
 ghost use Rattle.vital_as_read.specs.Libraries.{IsFromText};
 ghost use Rattle.vital_library.specs.Gathered.{gathered};
 ghost use Rattle.vital_tool.specs.Loading.{OpensFiles, all_loaded};
 ghost use Rattle.vital_tool.specs.Outcome.{Runs, Stage};
 ghost use Rattle.vital_tool.specs.Stages.{IsLibraryAnswer, IsLoadedAnswer, IsTaskAnswer};
-ghost use Rattle.vital_words.specs.Given.{NamesIn};
+ghost use Rattle.vital_words.specs.Given.{IsBounded, IsBoundedTask, NamesIn};
 
 use crate::cells::check_cells;
-use crate::elaborating::{Asked, print_tree};
+use crate::elaborating::{Aim, Asked, elaborate_top};
 use crate::lines::refuse_long;
 use crate::loading::{NotLoaded, Source, load_files};
 use crate::reading::{Unread, read_files};
 use crate::refusal::{library_refusal, refuse_files};
+use crate::simulating::Simulated;
 use crate::status::Status;
 use crate::stimuli::play_text;
 use std::alloc::Global;
@@ -21,7 +22,7 @@ use vital_base::{List, Shelf, Sink};
 use vital_library::{Library, gather};
 use vital_report::Printer;
 use vital_vhdl::{Units, one_reading, vhdl_rules};
-use vital_words::{Job, Task};
+use vital_words::{Job, NamedFile, Sim, Task};
 
 /// Runs a job: its files are loaded, and then come the other stages.
 pub fn run_job<S: Shelf, K: Sink>(
@@ -30,8 +31,9 @@ pub fn run_job<S: Shelf, K: Sink>(
     shelf: &mut S,
     printer: &mut Printer<'_, K>,
 ) -> Status
-    requires few { length job.now.files ≤ 17 }
+    requires few { length job.now.files ≤ 18 }
     requires names_in { NamesIn job.now }
+    requires bounded { IsBounded job.now }
     requires goes_on { printer.old.stopped ≡ false }
     ensures runs { Runs (λ files. IsLoadedAnswer job.now (all_loaded files job.now.files)) result
         (S.files shelf.old) (S.is_steady shelf.old) (S.faults shelf.old) (S.faults shelf.new) printer.old printer.new }
@@ -52,10 +54,11 @@ fn run_sources<K: Sink>(
     sources: &List<Source>,
     printer: &mut Printer<'_, K>,
 ) -> Status
-    requires few { length sources.now ≤ 17 }
+    requires few { length sources.now ≤ 18 }
     requires within { All (λ source. length source.text ≤ 16_777_216) sources.now }
     requires count { length sources.now ≡ length job.now.files }
     requires names_in { NamesIn job.now }
+    requires bounded { IsBounded job.now }
     requires goes_on { printer.old.stopped ≡ false }
     ensures { Stage (IsLoadedAnswer job.now (Ok sources.now)) result printer.old printer.new }
 {
@@ -82,6 +85,7 @@ fn run_units<K: Sink>(
     requires within { All (λ source. length source.text ≤ 16_777_216) sources.now }
     requires count { length sources.now ≡ length job.now.files }
     requires names_in { NamesIn job.now }
+    requires bounded { IsBounded job.now }
     requires goes_on { printer.old.stopped ≡ false }
     ensures { Stage (IsLibraryAnswer job.now sources.now (gathered units)) result printer.old printer.new }
 {
@@ -106,6 +110,7 @@ fn run_task<K: Sink>(
     requires within { All (λ source. length source.text ≤ 16_777_216) sources.now }
     requires count { length sources.now ≡ length job.now.files }
     requires names_in { NamesIn job.now }
+    requires bounded { IsBounded job.now }
     requires goes_on { printer.old.stopped ≡ false }
     ensures { Stage (IsTaskAnswer job.now.task job.now.files sources.now library.now) result printer.old printer.new }
 {
@@ -125,7 +130,40 @@ fn run_task<K: Sink>(
         Task::Tree(tree) => {
             let files = job.files.as_slice();
             let top = tree.top.as_slice();
-            print_tree(alloc, Asked { files, top }, library, printer)
+            let aim = Aim::Tree;
+            elaborate_top(alloc, Asked { files, top, aim }, library, printer)
+        }
+        Task::Sim(sim) => {
+            let files = job.files.as_slice();
+            run_sim(alloc, sim, files, sources.as_slice(), library, printer)
         }
     }
+}
+
+/// Simulates what is asked for in a library with these files.
+fn run_sim<K: Sink>(
+    alloc: Global,
+    sim: &Sim,
+    files: &[NamedFile],
+    sources: &[Source],
+    library: &Library,
+    printer: &mut Printer<'_, K>,
+) -> Status
+    requires read { All IsFromText library.now }
+    requires within { All (λ source. length source.text ≤ 16_777_216) sources.now }
+    requires count { length sources.now ≡ length files.now }
+    requires stim { sim.now.stim < length files.now }
+    requires bounded { IsBoundedTask (Task.Sim sim.now) }
+    requires goes_on { printer.old.stopped ≡ false }
+    ensures { Stage (IsTaskAnswer (Task.Sim sim.now) files.now sources.now library.now) result printer.old printer.new }
+{
+    let file = &files[sim.stim];
+    let source = &sources[sim.stim];
+    let top = sim.top.as_slice();
+    let aim = Aim::Sim(Simulated {
+        sim,
+        name: &file.name,
+        text: source.text.as_slice(),
+    });
+    elaborate_top(alloc, Asked { files, top, aim }, library, printer)
 }

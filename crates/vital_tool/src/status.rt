@@ -20,6 +20,8 @@ pub enum Status {
     Netlist,
     /// The stimuli are wrong.
     Stimulus,
+    /// A cycle would begin whose delta number is the limit.
+    DeltaLimit,
     /// The shelf failed.
     ReadFault,
     /// The sink failed.
@@ -42,6 +44,7 @@ impl Status {
             Status::Library => 5,
             Status::Netlist => 6,
             Status::Stimulus => 8,
+            Status::DeltaLimit => 9,
             Status::ReadFault => 10,
             Status::WriteFault => 11,
             Status::NoMemory => 12,

@@ -4,16 +4,17 @@ ghost use Rattle.std.specs.Prelude.{◌≡◌, ◌^◌, ◌<◌, ◌≤◌, fals
 ghost use Rattle.std.specs.List.Sorted.{IsNonDecreasing};
 ghost use Rattle.vital_stim.specs.Stimuli.{Fits};
 ghost use Rattle.vital_tool.specs.Outcome.{Stage};
-ghost use Rattle.vital_tool.specs.Stimuli.{printed_why, IsStimuliAnswer, IsTextAnswer};
+ghost use Rattle.vital_tool.specs.Stimuli.{IsStimuliAnswer, IsTextAnswer, printed_why, refused_stimuli};
 
 use crate::cycles::play;
-use crate::lines::{PrintError, refuse};
+use crate::lines::end_with;
 use crate::signals::Signals;
 use crate::status::Status;
 use std::alloc::Global;
 use vital_base::{Name, Sink, Time};
-use vital_report::{Line, Printer, StimulusWhy};
-use vital_stim::{StimError, StimWhy, Stimuli, read_stim};
+use vital_kernel::{one_run, port_run};
+use vital_report::{Line, PrintError, Printer, StimulusWhy};
+use vital_stim::{StimError, StimFault, StimWhy, Stimuli, read_stim};
 
 /// Plays the text of a stimulus file of this name.
 pub fn play_text<K: Sink>(
@@ -29,14 +30,7 @@ pub fn play_text<K: Sink>(
 {
     match read_stim(alloc, text, None) {
         Ok(stimuli) => play_stimuli(alloc, &stimuli, until, printer),
-        Err(StimError::Fault(fault)) => {
-            let line = Line::RefusedStimulus {
-                why: printed_why(fault.why),
-                file: name,
-                line: fault.line,
-            };
-            refuse(&line, Status::Stimulus, printer)
-        }
+        Err(StimError::Fault(fault)) => refuse_stimuli(name, fault, printer),
         Err(StimError::NoMemory) => Status::NoMemory,
     }
 }
@@ -54,6 +48,8 @@ fn play_stimuli<K: Sink>(
     requires goes_on { printer.old.stopped ≡ false }
     ensures { Stage (IsStimuliAnswer until stimuli.now) result printer.old printer.new }
 {
+    one_run();
+    port_run();
     let ports = stimuli.ports.as_slice();
     let Ok(mut signals) = Signals::new(alloc, ports) else {
         return Status::NoMemory;
@@ -69,6 +65,23 @@ fn play_stimuli<K: Sink>(
         Err(PrintError::WriteFault) => Status::WriteFault,
         Err(PrintError::NoMemory) => Status::NoMemory,
     }
+}
+
+/// Refuses a stimulus file of this name with a fault.
+pub fn refuse_stimuli<K: Sink>(
+    name: &Name,
+    fault: StimFault,
+    printer: &mut Printer<'_, K>,
+) -> Status
+    requires goes_on { printer.old.stopped ≡ false }
+    ensures { Stage (λ answer. answer ≡ refused_stimuli name.now fault) result printer.old printer.new }
+{
+    let line = Line::RefusedStimulus {
+        why: printed_why(fault.why),
+        file: name,
+        line: fault.line,
+    };
+    end_with(&line, Status::Stimulus, printer)
 }
 
 /// Why a stimulus file is refused, as it is printed.

@@ -3,16 +3,14 @@
 ghost use Rattle.std.specs.Prelude.{◌≡◌, false, map};
 ghost use Rattle.vital_netlist.specs.Designs.{lent_instance, lent_signal};
 ghost use Rattle.vital_netlist.specs.Trees.{name_of, tree_instance, tree_instances, tree_signals};
-ghost use Rattle.vital_report.specs.Lines.{bytes_of, signal as signal'};
-ghost use Rattle.vital_tool.specs.Answer.{text_of};
-ghost use Rattle.vital_tool.specs.Outcome.{PrintsPart};
+ghost use Rattle.vital_report.specs.Lines.{bytes_of, signal as signal', text_of};
+ghost use Rattle.vital_report.specs.Reporters.{PrintsPart};
 ghost use Rattle.vital_tool.specs.Trees as spec;
 
-use crate::lines::PrintError;
 use std::alloc::Global;
 use vital_base::Sink;
 use vital_netlist::{Design, DesignInstance, DesignSignal};
-use vital_report::{Line, Printer};
+use vital_report::{Line, PrintError, Printer};
 
 /// Prints the line of the instance of a number.
 fn print_instance<K: Sink>(

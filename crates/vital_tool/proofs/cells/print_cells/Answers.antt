@@ -1,7 +1,6 @@
 use Rattle.std.proofs.Common.{ℕ, List, [], ◌++◌, map, sym, subst, append-nil}
-use Rattle.vital_report.specs.Lines.{bytes_of}
+use Rattle.vital_report.specs.Lines.{bytes_of, text_of}
 use Rattle.vital_report.specs.Reporters.{Printed, Prints}
-use Rattle.vital_tool.specs.Answer.{text_of}
 use Rattle.vital_tool.specs.Cells.{level_lines, limit_line, limit_lines}
 use Rattle.vital_tool.specs.Kept.{lent}
 use Rattle.vital_tool.proofs.Parts.{prints_both, prints_failed}

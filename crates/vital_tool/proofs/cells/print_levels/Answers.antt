@@ -1,8 +1,7 @@
 use Rattle.std.proofs.Common.{◌+◌, ◌<◌, drop, get_or, length, map, arith}
 use Rattle.std.proofs.lemmas.Option.{slice_get-get_or}
 use Rattle.vital_level1.specs.declared.level.CellLevel.TheVariants.{Level1}
-use Rattle.vital_report.specs.Lines.{bytes_of}
-use Rattle.vital_tool.specs.Answer.{text_of}
+use Rattle.vital_report.specs.Lines.{bytes_of, text_of}
 use Rattle.vital_tool.specs.Cells.{level_line, level_lines}
 use Rattle.vital_tool.specs.Kept.{lent}
 use Rattle.vital_tool.proofs.CellLines.{none_left, one_line, seen_at}

@@ -1,6 +1,6 @@
 use Rattle.std.proofs.Common.{List, drop, map}
 use Rattle.vital_nodes.specs.declared.unit.Units.{Units}
-use Rattle.vital_tool.specs.Answer.{text_of}
+use Rattle.vital_report.specs.Lines.{text_of}
 use Rattle.vital_tool.specs.Cells.{level_lines}
 use Rattle.vital_tool.specs.Kept.{lent}
 use Rattle.vital_tool.proofs.Parts.{Part}

@@ -2,10 +2,11 @@ use Rattle.std.proofs.Common.{◌≡◌, ◌<◌, List, map, sym, ap, subst, ◌
 use Rattle.vital_agenda.specs.Agendas.{Content, advanced}
 use Rattle.vital_agenda.specs.Driver.{Driver, advance, pending_count}
 use Rattle.vital_stim.specs.declared.stimuli.StimLine.{StimLine}
-use Rattle.vital_tool.specs.Run.{delta_at, up_to}
-use Rattle.vital_tool.specs.Ports.{cycle_text, cycles_text, due_lines, sent_to}
+use Rattle.vital_kernel.specs.PortRuns.{sent_to}
+use Rattle.vital_kernel.specs.Runs.{delta_at, up_to}
+use Rattle.vital_tool.specs.Ports.{cycle_text, cycles_text, due_lines}
 use Rattle.vital_tool.proofs.CyclesLeft.{all_handed, handed, hands, left_text, lines_left}
-use Rattle.vital_tool.proofs.Parts.{part_breaks, part_stops, play_breaks, play_stops}
+use Rattle.vital_tool.proofs.Parts.{part_breaks, part_stops, passes_no_memory, passes_fault}
 use Rattle.vital_tool.proofs.cycles.run_cycles.Goals as goal
 
 pub loop-time-init : goal.loop-time-init
@@ -69,7 +70,7 @@ returns-in_err-send g c =
     let lines = c.loop-time.left.now in
     let time = c.in-Some.time in
     let h = hands ports until start whole c.loop-time.now c.loop-time.delta time lines c.loop-time.signals c.loop-time.printer c.loop-time.invariant (sym (c.in-Some.ensures ∙ ap (up_to until) c.first_time.ensures)) in
-    play_breaks c.from_residual.result whole start c.loop-time.printer c.from_residual.ensures.1 (part_breaks start whole _ c.loop-time.printer h.comes.part)
+    passes_no_memory c.from_residual.result whole start c.loop-time.printer c.from_residual.ensures.1 (part_breaks start whole _ c.loop-time.printer h.comes.part)
 
 pub returns-in_err-cycle : goal.returns-in_err-cycle
 returns-in_err-cycle g c =
@@ -85,7 +86,7 @@ returns-in_err-cycle g c =
     let delta = delta_at time c.loop-time.now c.loop-time.delta in
     let all = sent_to lines c.loop-time.signals.drivers in
     let failed = rw (c.next_delta-delta.ensures, sent, sym (h.text delta)) at c.in_err-cycle.ensures.prints in
-    play_stops c.from_residual-in_err-cycle.result whole start c.cycle.new.printer c.from_residual-in_err-cycle.ensures.1
+    passes_fault c.from_residual-in_err-cycle.result whole start c.cycle.new.printer c.from_residual-in_err-cycle.ensures.1
     (part_stops start whole (cycle_text time delta ports all) (left_text h.comes.left ports until time delta (map (advance time) all)) c.loop-time.printer c.cycle.new.printer h.comes.part failed)
 
 pub loop-time-smaller : goal.loop-time-smaller

@@ -1,5 +1,6 @@
 use Rattle.vital_agenda.specs.Driver.{pending_count}
-use Rattle.vital_tool.specs.Ports.{cycles_text, sent_to}
+use Rattle.vital_kernel.specs.PortRuns.{sent_to}
+use Rattle.vital_tool.specs.Ports.{cycles_text}
 use Rattle.vital_tool.proofs.CyclesLeft.{LinesLeft}
 use Rattle.vital_tool.proofs.cycles.run_cycles.Given as goal
 

@@ -1,5 +1,5 @@
 use Rattle.std.proofs.Common.{◌≡◌, map, take}
-use Rattle.vital_tool.specs.Play.{initial_level}
+use Rattle.vital_network.specs.DesignNetworks.{initial_level}
 use Rattle.vital_tool.proofs.signals.initial_values.Given as goal
 
 abbrev pub invariant-loop-port : goal.invariant-loop-port

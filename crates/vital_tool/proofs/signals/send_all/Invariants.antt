@@ -1,5 +1,5 @@
 use Rattle.std.proofs.Common.{drop}
-use Rattle.vital_tool.specs.Ports.{sent_to}
+use Rattle.vital_kernel.specs.PortRuns.{sent_to}
 use Rattle.vital_tool.proofs.Sending.{Sent}
 use Rattle.vital_tool.proofs.signals.send_all.Given as goal
 

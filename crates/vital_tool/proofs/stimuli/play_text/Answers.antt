@@ -12,5 +12,4 @@ returns-in-Ok g c =
 pub returns-in-Err-Fault : goal.returns-in-Err-Fault
 returns-in-Err-Fault g c =
     let told = rw c.in-Err-Fault.field-0-is at c.in-Err-Fault.ensures.answer in
-    let why = rw c.in-Err-Fault.field-0-is at c.printed_why.ensures in
-    subst (λ (read : Result Stimuli StimFault). Stage (IsReadStimuliAnswer c.args.name.now c.args.until read) c.refuse.result c.args.printer.now c.refuse.new.printer) (sym told) (rw (c.in-Err-Fault.field-0-is, why) at c.refuse.ensures)
+    subst (λ (read : Result Stimuli StimFault). Stage (IsReadStimuliAnswer c.args.name.now c.args.until read) c.refuse_stimuli.result c.args.printer.now c.refuse_stimuli.new.printer) (sym told) (rw c.in-Err-Fault.field-0-is at c.refuse_stimuli.ensures)

@@ -2,7 +2,7 @@ use Rattle.vital_netlist.specs.Designs.{lent_instance}
 use Rattle.vital_netlist.specs.Trees.{tree_instance}
 use Rattle.vital_report.specs.Lines.{bytes_of}
 use Rattle.vital_tool.specs.Trees.{instance_line}
-use Rattle.vital_tool.proofs.Parts.{play_breaks}
+use Rattle.vital_tool.proofs.Parts.{passes_no_memory}
 use Rattle.vital_tool.proofs.Texts.{printed_none}
 use Rattle.vital_tool.proofs.tree.print_instance.Goals as goal
 
@@ -10,4 +10,4 @@ pub returns-in_err-path : goal.returns-in_err-path
 returns-in_err-path g c =
     let old = c.args.printer.now in
     let whole = bytes_of (instance_line (tree_instance c.args.design.now (c.args.number, lent_instance c.args.instance.now))) in
-    play_breaks c.from_residual.result whole old old c.from_residual.ensures.1 (0, printed_none old c.requires.goes_on)
+    passes_no_memory c.from_residual.result whole old old c.from_residual.ensures.1 (0, printed_none old c.requires.goes_on)

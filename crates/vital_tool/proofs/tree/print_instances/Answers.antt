@@ -1,10 +1,9 @@
 use Rattle.std.proofs.Common.{List, ℕ, ◌+◌, ◌<◌, get_or, length, map, subst, arith}
 use Rattle.vital_netlist.specs.Designs.{lent_instance}
 use Rattle.vital_netlist.specs.Trees.{tree_instance, tree_instances}
-use Rattle.vital_report.specs.Lines.{bytes_of}
-use Rattle.vital_tool.specs.Answer.{text_of}
+use Rattle.vital_report.specs.Lines.{bytes_of, text_of}
 use Rattle.vital_tool.specs.Trees.{instance_line}
-use Rattle.vital_tool.proofs.Parts.{Part, part_ends, part_goes_on, play_failed}
+use Rattle.vital_tool.proofs.Parts.{Part, part_ends, part_goes_on, passes_failure}
 use Rattle.vital_tool.proofs.TreeLines.{as_read, instances_left, no_instance, nothing, one_instance}
 use Rattle.vital_tool.proofs.tree.print_instances.Goals as goal
 
@@ -19,7 +18,7 @@ returns-in_err-print_instance g c =
     let piece = bytes_of (instance_line (tree_instance d (i, lent_instance here))) in
     let one = one_instance lent_instance d c.args.instances.now i here c.requires.those within (as_read c.args.instances.now i within) in
     let part = subst (λ (left : List ℕ). Part start whole left c.loop-number.printer) one c.loop-number.invariant in
-    play_failed (Unit {0}) c.from_residual.result _ start whole piece (instances_left d (i + 1)) c.loop-number.printer c.print_instance.new.printer c.from_residual.ensures.1 part c.in_err-print_instance.ensures
+    passes_failure (Unit {0}) c.from_residual.result _ start whole piece (instances_left d (i + 1)) c.loop-number.printer c.print_instance.new.printer c.from_residual.ensures.1 part c.in_err-print_instance.ensures
 
 pub loop-number-preserved : goal.loop-number-preserved
 loop-number-preserved g c =

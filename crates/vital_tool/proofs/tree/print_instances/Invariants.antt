@@ -1,6 +1,6 @@
 use Rattle.std.proofs.Common.{map}
 use Rattle.vital_netlist.specs.Trees.{tree_instances}
-use Rattle.vital_tool.specs.Answer.{text_of}
+use Rattle.vital_report.specs.Lines.{text_of}
 use Rattle.vital_tool.specs.Trees.{instance_line}
 use Rattle.vital_tool.proofs.Parts.{Part}
 use Rattle.vital_tool.proofs.TreeLines.{instances_left}

@@ -1,7 +1,7 @@
 use Rattle.vital_netlist.specs.Designs.{lent_signal}
 use Rattle.vital_netlist.specs.Trees.{name_of}
 use Rattle.vital_report.specs.Lines.{bytes_of, signal}
-use Rattle.vital_tool.proofs.Parts.{play_breaks}
+use Rattle.vital_tool.proofs.Parts.{passes_no_memory}
 use Rattle.vital_tool.proofs.Texts.{printed_none}
 use Rattle.vital_tool.proofs.tree.print_signal.Goals as goal
 
@@ -10,4 +10,4 @@ returns-in_err-name g c =
     let old = c.args.printer.now in
     let told = c.args.signal.now in
     let whole = bytes_of (signal (name_of c.args.design.now (lent_signal told)) told.is_resolved c.args.drivers) in
-    play_breaks c.from_residual.result whole old old c.from_residual.ensures.1 (0, printed_none old c.requires.goes_on)
+    passes_no_memory c.from_residual.result whole old old c.from_residual.ensures.1 (0, printed_none old c.requires.goes_on)

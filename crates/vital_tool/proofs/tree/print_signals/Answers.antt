@@ -1,12 +1,10 @@
 use Rattle.std.proofs.Common.{◌≡◌, List, ℕ, ◌+◌, Err, length, ap, map, subst, arith}
 use Rattle.vital_netlist.specs.Designs.{drivers_of, lent_signal}
 use Rattle.vital_netlist.specs.Trees.{name_of, tree_signal, tree_signals}
-use Rattle.vital_report.specs.Lines.{bytes_of, signal}
-use Rattle.vital_report.specs.Reporters.{Printed}
-use Rattle.vital_tool.specs.Answer.{text_of}
-use Rattle.vital_tool.specs.Outcome.{PrintsPart}
+use Rattle.vital_report.specs.Lines.{bytes_of, signal, text_of}
+use Rattle.vital_report.specs.Reporters.{Printed, PrintsPart}
 use Rattle.vital_tool.specs.Trees.{signal_line}
-use Rattle.vital_tool.proofs.Parts.{Part, part_ends, part_goes_on, play_breaks, play_failed}
+use Rattle.vital_tool.proofs.Parts.{Part, part_ends, part_goes_on, passes_no_memory, passes_failure}
 use Rattle.vital_tool.proofs.Texts.{printed_none}
 use Rattle.vital_tool.proofs.TreeLines.{as_many, count_at, no_signal, one_signal, signals_left}
 use Rattle.vital_tool.proofs.tree.print_signals.Goals as goal
@@ -20,7 +18,7 @@ pub returns-in_err-counts : goal.returns-in_err-counts
 returns-in_err-counts g c =
     let old = c.args.printer.now in
     let whole = text_of (map signal_line (tree_signals c.args.design.now)) in
-    play_breaks c.from_residual.result whole old old c.from_residual.ensures.1 (0, printed_none old c.requires.goes_on)
+    passes_no_memory c.from_residual.result whole old old c.from_residual.ensures.1 (0, printed_none old c.requires.goes_on)
 
 pub returns-in_err-print_signal : goal.returns-in_err-print_signal
 returns-in_err-print_signal g c =
@@ -35,7 +33,7 @@ returns-in_err-print_signal g c =
     let part = subst (λ (left : List ℕ). Part start whole left c.loop-number.printer) one c.loop-number.invariant in
     let count : c.index.result.now ≡ drivers_of d i = count_at lent_signal d c.signals-all.result.now i c.index.result.now c.signals-all.ensures (omega (arith, c.loop-number-test.true)) (rw c.in_ok-counts.ensures at c.index.ensures) in
     let written = subst (λ (n : ℕ). PrintsPart {T = Unit {0}} (Err c.in_err-print_signal.field-0.0) (bytes_of (signal (name_of d seen) seen.is_resolved n)) c.loop-number.printer c.print_signal.new.printer) count c.in_err-print_signal.ensures in
-    play_failed (Unit {0}) c.from_residual-in_err-print_signal.result _ start whole piece (signals_left d (i + 1)) c.loop-number.printer c.print_signal.new.printer c.from_residual-in_err-print_signal.ensures.1 part written
+    passes_failure (Unit {0}) c.from_residual-in_err-print_signal.result _ start whole piece (signals_left d (i + 1)) c.loop-number.printer c.print_signal.new.printer c.from_residual-in_err-print_signal.ensures.1 part written
 
 pub loop-number-preserved : goal.loop-number-preserved
 loop-number-preserved g c =

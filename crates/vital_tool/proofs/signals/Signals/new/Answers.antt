@@ -3,7 +3,7 @@ use Rattle.std.proofs.lemmas.List.{length-map}
 use Rattle.vital_agenda.specs.Agendas.{Content}
 use Rattle.vital_agenda.specs.Agendas.{idle_driver as idle}
 use Rattle.vital_agenda.specs.Driver.{currents, Driver}
-use Rattle.vital_tool.specs.Play.{initial_level}
+use Rattle.vital_network.specs.DesignNetworks.{initial_level}
 use Rattle.vital_tool.proofs.Sending.{current-idle, idle-ports}
 use Rattle.vital_tool.proofs.signals.Signals.new.Goals as goal
 
