@@ -2,8 +2,6 @@
 
 mod check_rows;
 mod play_rows;
-mod sim_files;
-mod sim_rows;
 mod tree_rows;
 
 use crate::run::run;
@@ -29,31 +27,13 @@ fn words_of(alloc: Global, words: &[&str]) -> Result<Vec<Word>, AllocError> {
 }
 
 fn files_of(alloc: Global, texts: &[(&str, &str)]) -> Result<List<MemFile>, AllocError> {
-    edited_files(alloc, texts, &[])
-}
-
-/// Files with these texts after edits: in place of the first text of each stands the second, wherever that was.
-fn edited_files(
-    alloc: Global,
-    texts: &[(&str, &str)],
-    edits: &[(&str, &str)],
-) -> Result<List<MemFile>, AllocError> {
     let mut files = Vec::new(alloc);
     for (name, text) in texts {
         let name = Name::new(Vec::from_slice(alloc, name.as_bytes())?);
-        let text = edited(alloc, text, edits)?;
         let bytes = Bytes::new(Vec::from_slice(alloc, text.as_bytes())?);
         files.push(MemFile { name, bytes })?;
     }
     Ok(List::new(files))
-}
-
-fn edited(alloc: Global, text: &str, edits: &[(&str, &str)]) -> Result<String, AllocError> {
-    let mut text = String::from_str(alloc, text)?;
-    for (old, new) in edits {
-        text = text.replace(alloc, *old, new)?;
-    }
-    Ok(text)
 }
 
 /// What is written, and the status, where these are the words and the files with their texts.
@@ -62,17 +42,8 @@ fn answered(
     words: &[&str],
     texts: &[(&str, &str)],
 ) -> Result<(MemSink, Status), AllocError> {
-    answered_over(alloc, words, files_of(alloc, texts)?)
-}
-
-/// The same where these are the files.
-fn answered_over(
-    alloc: Global,
-    words: &[&str],
-    files: List<MemFile>,
-) -> Result<(MemSink, Status), AllocError> {
     let words = words_of(alloc, words)?;
-    let mut shelf = MemShelf::new(files, 7, List::new(Vec::new(alloc)));
+    let mut shelf = MemShelf::new(files_of(alloc, texts)?, 7, List::new(Vec::new(alloc)));
     let mut sink = MemSink::new(alloc, 1_000, List::new(Vec::new(alloc)));
     let status = run(alloc, &words, &mut shelf, &mut sink);
     Ok((sink, status))
@@ -94,18 +65,6 @@ fn tree_rows_are_answered(rt: HostRuntime) -> Result<(), Fail> {
     let alloc = rt.alloc();
     for (words, texts, written, status) in tree_rows::ROWS.iter() {
         let (sink, ended) = answered(alloc, words, texts)?;
-        assert_eq!(rt; ended.number(), *status, "at {written:?}");
-        assert_eq!(rt; sink.bytes(), written.as_bytes(), "at {written:?}");
-    }
-    Ok(())
-}
-
-#[test]
-fn sim_rows_are_answered(rt: HostRuntime) -> Result<(), Fail> {
-    let alloc = rt.alloc();
-    for (words, texts, edits, written, status) in sim_rows::ROWS.iter() {
-        let files = edited_files(alloc, texts, edits)?;
-        let (sink, ended) = answered_over(alloc, words, files)?;
         assert_eq!(rt; ended.number(), *status, "at {written:?}");
         assert_eq!(rt; sink.bytes(), written.as_bytes(), "at {written:?}");
     }
