@@ -26,8 +26,8 @@ use Rattle.vital_operands.specs.declared.tree.TimeExpr.TheVariants as time
 use Rattle.vital_operands.specs.Faults.{own_breach}
 use Rattle.vital_operands.specs.Named.{state_table_named, table_named}
 use Rattle.vital_statements.specs.Parentheses.{bare_identifier}
-use Rattle.vital_walk.specs.Items.{actual as actual_given}
-use Rattle.vital_walk.specs.Names.{identifier_of}
+use Rattle.vital_nodes.specs.Items.{actual as actual_given}
+use Rattle.vital_nodes.specs.Names.{identifier_of}
 use Rattle.vital_actuals.specs.Kinds.{name_for}
 use Rattle.vital_actuals.specs.Literals.{edge_symbol, mode_named, severity_named, state_count}
 use Rattle.vital_actuals.specs.Paths.{paths_of}

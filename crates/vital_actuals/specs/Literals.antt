@@ -11,7 +11,7 @@ use Rattle.vital_nodes.specs.declared.identifier.Identifier.{Identifier}
 use Rattle.vital_operands.specs.Positions.{Position, Standing, Operand, Constant, Word, Nothing, standing}
 use Rattle.vital_timing.specs.declared.glitch_mode.GlitchMode.{GlitchMode}
 use Rattle.vital_tables.specs.Symbols.{edge_symbols, is_among}
-use Rattle.vital_walk.specs.Bounds.{literal_integer}
+use Rattle.vital_nodes.specs.Bounds.{literal_integer}
 
 -- A number of states: no table has more than 256, since no vector has more elements.
 abbrev pub small_number : List ℕ → Option ℕ

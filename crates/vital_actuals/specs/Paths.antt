@@ -22,8 +22,8 @@ use Rattle.vital_operands.specs.declared.tree.DelayExpr.{DelayExpr}
 use Rattle.vital_operands.specs.Items.{are_positional}
 use Rattle.vital_operands.specs.Positions.{Position}
 use Rattle.vital_timing.specs.declared.delay.DelayType.{DelayType}
-use Rattle.vital_walk.specs.Bounds.{literal_integer}
-use Rattle.vital_walk.specs.Items.{actual, formal, listed_items, positional_value, value_in_actual, value_in_choice}
+use Rattle.vital_nodes.specs.Bounds.{literal_integer}
+use Rattle.vital_nodes.specs.Items.{actual, formal, listed_items, positional_value, value_in_actual, value_in_choice}
 use Rattle.vital_actuals.specs.Kinds.{name_for}
 
 -- ---- the parts of a path

@@ -10,8 +10,8 @@ ghost use Rattle.vital_expr.specs.Seen as readers;
 ghost use Rattle.vital_operands.specs.Faults.{own_breach};
 ghost use Rattle.vital_operands.specs.Named as names;
 ghost use Rattle.vital_statements.specs.Parentheses as parentheses;
-ghost use Rattle.vital_walk.specs.Names as walk;
-ghost use Rattle.vital_walk.specs.Seen.{seen};
+ghost use Rattle.vital_nodes.specs.Names as walk;
+ghost use Rattle.vital_nodes.specs.Seen.{seen};
 
 use crate::kind::name_for;
 use crate::literal::{mode_named, severity_named};
@@ -21,11 +21,10 @@ use vital_base::{Name, Place};
 use vital_calls::ActualForm;
 use vital_expr::Reader;
 use vital_names::Severity;
-use vital_nodes::Expr;
+use vital_nodes::{Expr, Node, identifier_of};
 use vital_operands::ConstantName;
 use vital_statements::bare_identifier;
 use vital_timing::GlitchMode;
-use vital_walk::{Node, identifier_of};
 
 /// Puts the place of a node that is not of its form at the end, unless a name in it breaks another clause.
 pub fn put_fault(

@@ -18,10 +18,9 @@ use std::alloc::AllocError;
 use vital_base::Place;
 use vital_calls::ActualForm;
 use vital_expr::{Reader, boolean, delay, level, text, time, vector};
-use vital_nodes::{Actual as GivenActual, Expr, Item};
+use vital_nodes::{Actual as GivenActual, Expr, HasPlace, Item, Node, actual};
 use vital_operands::{BooleanExpr, TimeExpr};
 use vital_timing::DelayType;
-use vital_walk::{HasPlace, Node, actual};
 
 // ---- expressions
 

@@ -6,11 +6,10 @@ ghost use Rattle.vital_operands.specs.Seen.{lent, lent_standing};
 
 use vital_declarations::{character, literal_value};
 use vital_names::{Predeclared, Severity};
-use vital_nodes::{Expr, Identifier};
+use vital_nodes::{Expr, Identifier, literal_integer};
 use vital_operands::{Position, Standing};
 use vital_tables::is_edge_symbol;
 use vital_timing::GlitchMode;
-use vital_walk::literal_integer;
 
 /// No table has more states than a vector has elements.
 const MOST_STATES: usize = 256;

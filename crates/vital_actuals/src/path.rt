@@ -15,10 +15,12 @@ use vital_base::{Name, Place};
 use vital_calls::ActualForm;
 use vital_declarations::literal_value;
 use vital_expr::{Reader, Trees, boolean, delay};
-use vital_nodes::{Actual, Choice, Expr, Item, Reference, Suffix};
+use vital_nodes::{
+    Actual, Choice, Expr, Item, Reference, Suffix, actual, formal, identifier_of, listed_items,
+    literal_integer, positional_value,
+};
 use vital_operands::{BooleanExpr, DelayExpr, are_positional};
 use vital_timing::DelayType;
-use vital_walk::{actual, formal, identifier_of, listed_items, literal_integer, positional_value};
 
 // ---- the parts of a path
 

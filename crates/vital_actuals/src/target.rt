@@ -13,9 +13,8 @@ use std::alloc::{AllocError, Global};
 use vital_base::{Name, Place};
 use vital_declarations::{AliasTarget, OperandKind, VariableType, literal_index};
 use vital_expr::Reader;
-use vital_nodes::{Identifier, Reference};
+use vital_nodes::{HasPlace, Identifier, Node, Reference};
 use vital_operands::Position;
-use vital_walk::{HasPlace, Node};
 
 /// What an assignment or a result is put to. An alias is what it names.
 #[derive(Drop)]

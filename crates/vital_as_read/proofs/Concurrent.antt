@@ -31,8 +31,8 @@ use Rattle.vital_shapes.proofs.Steps.{◌&◌, choose, step, none_left, told_lef
 use Rattle.vital_shapes.proofs.Takes.{Takes, followed, passed, gives}
 use Rattle.vital_uses.specs.Nodes.{declarations_in}
 use Rattle.vital_uses.specs.Statements.{process as process_of, process_in}
-use Rattle.vital_walk.specs.Statements.{in_conc_layer}
-use Rattle.vital_walk.proofs.Values.{WalkLaw}
+use Rattle.vital_nodes.specs.Statements.{in_conc_layer}
+use Rattle.vital_nodes.proofs.Values.{WalkLaw}
 use Rattle.vital_as_read.specs.AsRead.{AreTogether, declared_by_statement, names_among}
 use Rattle.vital_as_read.proofs.Declarations.{declarations_along}
 use Rattle.vital_as_read.proofs.Each.{Each, each_ended, each_joined, each_led, each_passed, ends, none_each}

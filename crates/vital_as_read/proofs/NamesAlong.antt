@@ -7,7 +7,7 @@ use Rattle.vital_nodes.specs.Nodes.{Node, Name, parts_of}
 use Rattle.vital_nodes.specs.Walk.{nodes_of_all}
 use Rattle.vital_nodes.specs.declared.identifier.Identifier.{Identifier}
 use Rattle.vital_shapes.proofs.Along.{Source}
-use Rattle.vital_walk.proofs.Values.{WalkLaw}
+use Rattle.vital_nodes.proofs.Values.{WalkLaw}
 use Rattle.vital_as_read.specs.AsRead.{first_identifier}
 use Rattle.vital_as_read.proofs.Each.{Each, each_joined, ends, here, over}
 use Rattle.vital_as_read.proofs.Strictly.{Strictly, named, other, past, stay}

@@ -13,9 +13,9 @@ use Rattle.vital_nodes.specs.declared.stmt.Conc.TheViews.{out-roll-Conc, roll-Co
 use Rattle.vital_nodes.specs.declared.stmt.Process.{Process}
 use Rattle.vital_uses.specs.Nodes.{declarations_in}
 use Rattle.vital_uses.specs.Statements.{process, process_in}
-use Rattle.vital_walk.specs.Statements.{all_concurrent, concurrent, in_conc_layer, in_concurrent}
-use Rattle.vital_walk.proofs.Inner.{concurrent-put}
-use Rattle.vital_walk.proofs.Values.{WalkLaw}
+use Rattle.vital_nodes.specs.Statements.{all_concurrent, concurrent, in_conc_layer, in_concurrent}
+use Rattle.vital_nodes.proofs.Inner.{concurrent-put}
+use Rattle.vital_nodes.proofs.Values.{WalkLaw}
 use Rattle.vital_as_read.specs.AsRead.{declared_by_statement}
 
 -- the processes among statements, with those in their blocks

@@ -9,7 +9,7 @@ use Rattle.vital_nodes.specs.declared.unit.Units.{Units}
 use Rattle.vital_shapes.proofs.Along.{Source}
 use Rattle.vital_vhdl.proofs.IdentifierNames.{names_of_text}
 use Rattle.vital_vhdl.specs.Outcomes.{IsUnitsOf}
-use Rattle.vital_walk.proofs.Values.{WalkLaw}
+use Rattle.vital_nodes.proofs.Values.{WalkLaw}
 use Rattle.vital_as_read.specs.AsRead.{IsUnitAsRead}
 use Rattle.vital_as_read.proofs.AsRead.{units_as_read}
 use Rattle.vital_as_read.proofs.Tokens.{tokens_are_sound}

@@ -26,7 +26,7 @@ use Rattle.vital_shapes.proofs.Rules as rules
 use Rattle.vital_shapes.proofs.Steps.{◌&◌, step, placed, skipped, token_first}
 use Rattle.vital_shapes.proofs.Takes.{Takes, followed, passed, gives, claiming}
 use Rattle.vital_shapes.proofs.Units.{entity_statements_take}
-use Rattle.vital_walk.proofs.Values.{WalkLaw}
+use Rattle.vital_nodes.proofs.Values.{WalkLaw}
 use Rattle.vital_as_read.specs.AsRead.{AreTogether}
 use Rattle.vital_as_read.proofs.Concurrent.{ProcessAlong, concs_along, processes_led}
 use Rattle.vital_as_read.proofs.Declarations.{DeclarationsAlong, InterfacesAlong, declarations_along, interfaces_along}

@@ -14,8 +14,8 @@ use Rattle.vital_names.specs.Sites.{Cell, Site}
 use Rattle.vital_nodes.specs.declared.expr.Item.{Item}
 use Rattle.vital_nodes.specs.declared.expr.Reference.{Reference}
 use Rattle.vital_nodes.specs.declared.identifier.Identifier.{Identifier}
-use Rattle.vital_walk.specs.Items.{actual}
-use Rattle.vital_walk.specs.Names.{identifier_of}
+use Rattle.vital_nodes.specs.Items.{actual}
+use Rattle.vital_nodes.specs.Names.{identifier_of}
 
 -- ---- functions
 

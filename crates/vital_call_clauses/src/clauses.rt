@@ -13,10 +13,9 @@ use std::alloc::{AllocError, Global};
 use vital_base::Place;
 use vital_calls::Call;
 use vital_names::{CellNames, Site};
-use vital_nodes::{Conc, Reference};
+use vital_nodes::{Conc, HasPlace, Node, Reference};
 use vital_statements::{call_of_conc, call_of_stmt};
 use vital_uses::{CellStatements, CellUses, ProcessUses, SitedNode, own_site};
-use vital_walk::{HasPlace, Node};
 
 /// The places where L1.14 is broken in a cell, of which these are the uses and the statements: each call whose items are for no
 /// formal, for one twice, too few, or by position where names are asked. It takes time in proportion to the nodes of the cell.

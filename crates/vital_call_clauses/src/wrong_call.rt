@@ -14,8 +14,7 @@ use vital_calls::{
 };
 use vital_declarations::{OperandKind, VariableType, operand_kind};
 use vital_names::{CellNames, Function, Procedure, Site};
-use vital_nodes::{Identifier, Item, Reference};
-use vital_walk::{actual, identifier_of};
+use vital_nodes::{Identifier, Item, Reference, actual, identifier_of};
 
 // ---- functions
 

@@ -14,9 +14,8 @@ use std::alloc::Global;
 use std::test::Fail;
 use vital_calls::{ActualForm, actual_of, call_of, form_of, has_wrong_formals};
 use vital_ll::Rules;
-use vital_nodes::Reference;
+use vital_nodes::{HasPlace, Reference, actual, call};
 use vital_vhdl::{Role, Unit, UnitError, Units, read_units, vhdl_rules};
-use vital_walk::{HasPlace, actual, call};
 
 /// Names, each with the number of its items where it is a call.
 static SHAPES: [(&str, Option<usize>); 10] = [

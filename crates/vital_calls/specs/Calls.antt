@@ -5,7 +5,7 @@ use Rattle.vital_nodes.specs.declared.expr.Item.{Item}
 use Rattle.vital_nodes.specs.declared.expr.Reference.{Reference}
 use Rattle.vital_nodes.specs.declared.expr.Suffix.{Suffix}
 use Rattle.vital_nodes.specs.declared.identifier.Identifier.{Identifier}
-use Rattle.vital_walk.specs.Names.{items_of}
+use Rattle.vital_nodes.specs.Names.{items_of}
 use Rattle.vital_calls.specs.declared.call.Call.{Call as Call'}
 
 -- A call: the identifier of what is called, and its items.

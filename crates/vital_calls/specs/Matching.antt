@@ -9,8 +9,8 @@ use Rattle.vital_nodes.specs.declared.expr.Choice.{Choice}
 use Rattle.vital_nodes.specs.declared.expr.Item.{Item}
 use Rattle.vital_nodes.specs.declared.identifier.Identifier.{Identifier}
 use Rattle.vital_nodes.specs.Layers.{ItemLayer}
-use Rattle.vital_walk.specs.Items.{formal, value_in_choice}
-use Rattle.vital_walk.specs.Names.{identifier_of}
+use Rattle.vital_nodes.specs.Items.{formal, value_in_choice}
+use Rattle.vital_nodes.specs.Names.{identifier_of}
 use Rattle.vital_calls.specs.declared.actual_form.ActualForm.{ActualForm}
 use Rattle.vital_calls.specs.declared.actual_form.ActualForm.TheVariants as form
 use Rattle.vital_calls.specs.Formals.{Formal, Formals, Levels, PositionsOrNames, Names}

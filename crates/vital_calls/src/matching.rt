@@ -8,8 +8,7 @@ ghost use Rattle.vital_calls.specs.Matching as spec;
 
 use crate::actual_form::ActualForm;
 use crate::formal::{Formal, Formals};
-use vital_nodes::{Choice, Item};
-use vital_walk::{formal, identifier_of};
+use vital_nodes::{Choice, Item, formal, identifier_of};
 
 /// Whether the items of a call are wrong for formals (IEEE 1076-1993, 4.3.2.2): one is for no formal, two are for the same one, one
 /// that is required has none, an item by its position stands behind one with a name, or levels are not given all by their

@@ -14,8 +14,8 @@ use Rattle.vital_cell.proofs.SoundLemmas.{first-holds}
 use Rattle.vital_objects.specs.declared.port.Port.{Port}
 use Rattle.vital_objects.specs.declared.signal.Signal.{Signal}
 use Rattle.vital_operands.specs.Named.{is_read_mode}
-use Rattle.vital_sound.specs.Named.{is_input_port, is_internal, is_output_port}
-use Rattle.vital_sound.specs.Sound.{bit_count}
+use Rattle.vital_typed_cells.specs.Named.{is_input_port, is_internal, is_output_port}
+use Rattle.vital_typed_cells.specs.Sound.{bit_count}
 use Rattle.vital_typed_cells.specs.Bits.{names_of, number_of}
 use Rattle.vital_typed_cells.specs.declared.typed_cell.TypedCell.{TypedCell}
 

@@ -16,7 +16,7 @@ use Rattle.vital_execution.specs.Execution.{Executed, Process', Wire, all_execut
 use Rattle.vital_machine.specs.declared.program.Process.{Process}
 use Rattle.vital_machine.specs.Fits.{StepsAreOfCell}
 use Rattle.vital_operands.specs.declared.tree.Control.TheVariants as control
-use Rattle.vital_sound.specs.Sound.{IsSound, IsSoundProcess, bit_count, is_sound_wire}
+use Rattle.vital_typed_cells.specs.Sound.{IsSound, IsSoundProcess, bit_count, is_sound_wire}
 use Rattle.vital_steps.specs.Laws.{KindsSuit, SlotsBegin, StepsKeepKinds, StepsStand}
 use Rattle.vital_steps.specs.Values.{scope_of_cell}
 use Rattle.vital_timing.specs.declared.delay.Delay.{Delay}

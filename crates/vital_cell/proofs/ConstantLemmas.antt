@@ -21,8 +21,8 @@ use Rattle.vital_objects.specs.declared.package_value.PackageValue.TheVariants a
 use Rattle.vital_objects.specs.PackageValues.{value_at}
 use Rattle.vital_operands.specs.declared.tree.ConstantName.{ConstantName}
 use Rattle.vital_operands.specs.declared.tree.ConstantName.TheVariants as constant
-use Rattle.vital_sound.specs.Fitting.{are_parted, is_table as is_table'}
-use Rattle.vital_sound.specs.Named.{constant_is, has_package_rows, has_rows}
+use Rattle.vital_typed_cells.specs.Fitting.{are_parted, is_table as is_table'}
+use Rattle.vital_typed_cells.specs.Named.{constant_is, has_package_rows, has_rows}
 use Rattle.vital_steps.specs.Scopes.{Scope}
 use Rattle.vital_steps.specs.Sound.{has_state_table, has_table, rows_named}
 use Rattle.vital_steps.specs.Values.{named_worth, with_constants, worths_in}

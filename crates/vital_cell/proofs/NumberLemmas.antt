@@ -20,11 +20,11 @@ use Rattle.vital_sections.specs.declared.path_delay.PathDelay.{PathDelay}
 use Rattle.vital_sections.specs.declared.timing_check.ReferenceParts.{ReferenceParts}
 use Rattle.vital_sections.specs.declared.timing_check.TimingCheck.{TimingCheck}
 use Rattle.vital_sections.specs.declared.timing_check.TimingCheck.TheVariants as check
-use Rattle.vital_sound.specs.Named.{is_input_port, is_internal, is_output_port}
-use Rattle.vital_sound.specs.Scopes.{actuals_in, in_process, state_tables_in}
-use Rattle.vital_sound.specs.Sound.{IsSoundProcess, bit_count}
-use Rattle.vital_sound.specs.SoundSections.{is_sound_functional}
-use Rattle.vital_sound.specs.SoundStatements.{are_sound_parts, is_sound_check, is_sound_path_delay, is_sound_reference}
+use Rattle.vital_typed_cells.specs.Named.{is_input_port, is_internal, is_output_port}
+use Rattle.vital_typed_cells.specs.Scopes.{actuals_in, in_process, state_tables_in}
+use Rattle.vital_typed_cells.specs.Sound.{IsSoundProcess, bit_count}
+use Rattle.vital_typed_cells.specs.SoundSections.{is_sound_functional}
+use Rattle.vital_typed_cells.specs.SoundStatements.{are_sound_parts, is_sound_check, is_sound_path_delay, is_sound_reference}
 use Rattle.vital_steps.specs.Scopes.{bit_of}
 use Rattle.vital_steps.specs.Steps.{IsCheckStep, IsDelayStep, IsKind, parts_of, reference_of}
 use Rattle.vital_steps.specs.Values.{scope_of_cell, scope_of_process}

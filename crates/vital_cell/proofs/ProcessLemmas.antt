@@ -33,13 +33,13 @@ use Rattle.vital_objects.specs.declared.variable.VariableKind.{VariableKind}
 use Rattle.vital_objects.specs.declared.variable.VariableKind.TheVariants as kind
 use Rattle.vital_operands.specs.declared.tree.Control.TheVariants as control
 use Rattle.vital_sections.specs.declared.sections.Sections.{Sections}
-use Rattle.vital_sound.specs.ExprScopes.{Scope as Tests}
-use Rattle.vital_sound.specs.KeptStates.{kept_by}
-use Rattle.vital_sound.specs.Named.{is_input_port, is_internal}
-use Rattle.vital_sound.specs.Sound.{IsSound, IsSoundProcess, bit_count, is_sound_wire}
-use Rattle.vital_sound.specs.SoundDeclarations.{is_sound_kind}
-use Rattle.vital_sound.specs.SoundSections.{are_sound_sections, is_sound_functional}
-use Rattle.vital_sound.specs.SoundStatements.{is_sound_check, is_sound_path_delay}
+use Rattle.vital_typed_cells.specs.ExprScopes.{Scope as Tests}
+use Rattle.vital_typed_cells.specs.KeptStates.{kept_by}
+use Rattle.vital_typed_cells.specs.Named.{is_input_port, is_internal}
+use Rattle.vital_typed_cells.specs.Sound.{IsSound, IsSoundProcess, bit_count, is_sound_wire}
+use Rattle.vital_typed_cells.specs.SoundDeclarations.{is_sound_kind}
+use Rattle.vital_typed_cells.specs.SoundSections.{are_sound_sections, is_sound_functional}
+use Rattle.vital_typed_cells.specs.SoundStatements.{is_sound_check, is_sound_path_delay}
 use Rattle.vital_steps.specs.Formed.{IsFormed}
 use Rattle.vital_steps.specs.Kinds.{AreOfKinds, IsShort, keeps}
 use Rattle.vital_steps.specs.Laws.{BeginWell, KindsSuit, SlotsBegin, StepsKeepKinds, StepsStand}

@@ -27,11 +27,11 @@ use Rattle.vital_operands.specs.declared.tree.DelayExpr.{DelayExpr}
 use Rattle.vital_operands.specs.declared.tree.DelayExpr.TheVariants as delays
 use Rattle.vital_operands.specs.Named.{same_type}
 use Rattle.vital_path_delay.specs.Within.{IsWithin}
-use Rattle.vital_sound.specs.ExprScopes.{Scope as Tests}
-use Rattle.vital_sound.specs.Sound.{IsSound, IsSoundProcess}
-use Rattle.vital_sound.specs.SoundDeclarations.{AreSoundPackages, is_sound_constant, is_sound_package, names_in_packages}
-use Rattle.vital_sound.specs.Times.{are_short, is_short}
-use Rattle.vital_sound.specs.Trees.{is_sound_delay}
+use Rattle.vital_typed_cells.specs.ExprScopes.{Scope as Tests}
+use Rattle.vital_typed_cells.specs.Sound.{IsSound, IsSoundProcess}
+use Rattle.vital_typed_cells.specs.SoundDeclarations.{AreSoundPackages, is_sound_constant, is_sound_package, names_in_packages}
+use Rattle.vital_typed_cells.specs.Times.{are_short, is_short}
+use Rattle.vital_typed_cells.specs.Trees.{is_sound_delay}
 use Rattle.vital_steps.specs.Scopes.{Scope}
 use Rattle.vital_steps.specs.Sound.{tests}
 use Rattle.vital_steps.specs.Steps.{delay_of}

@@ -23,8 +23,8 @@ use Rattle.vital_operands.specs.declared.tree.LevelExpr.TheViews.{out-VectorExpr
 use Rattle.vital_operands.specs.declared.tree.TruthTableCall.{TruthTableCall, out-TruthTableCall}
 use Rattle.vital_operands.specs.declared.tree.VectorExpr.{VectorExpr}
 use Rattle.vital_operands.specs.declared.tree.VectorExpr.TheVariants as vector'
-use Rattle.vital_sound.specs.ExprScopes.{Scope}
-use Rattle.vital_sound.specs.Trees.{boolean_step, call_step, is_sound_boolean, is_sound_level, level_step, vector_step, vector_worth}
+use Rattle.vital_typed_cells.specs.ExprScopes.{Scope}
+use Rattle.vital_typed_cells.specs.Trees.{boolean_step, call_step, is_sound_boolean, is_sound_level, level_step, vector_step, vector_worth}
 
 -- Whether the call of a table is sound for so many results.
 abbrev pub is_sound_call : Scope → TruthTableCall → ℕ → Bool

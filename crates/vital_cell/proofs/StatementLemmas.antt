@@ -24,14 +24,14 @@ use Rattle.vital_sections.specs.declared.timing_check.ReferenceParts.{ReferenceP
 use Rattle.vital_sections.specs.declared.timing_check.SetupHoldCheck.{SetupHoldCheck}
 use Rattle.vital_sections.specs.declared.timing_check.TimingCheck.{TimingCheck}
 use Rattle.vital_sections.specs.declared.timing_check.TimingCheck.TheVariants as check
-use Rattle.vital_sound.specs.ActualScopes.{ActualScope}
-use Rattle.vital_sound.specs.ExprScopes.{Scope}
-use Rattle.vital_sound.specs.Scopes.{StateTableTest, actuals_in, in_process, scope_of, state_tables_in}
-use Rattle.vital_sound.specs.Sound.{IsSoundProcess}
-use Rattle.vital_sound.specs.SoundActuals.{is_sound_path, is_sound_target}
-use Rattle.vital_sound.specs.SoundAssignments.{is_sound_value}
-use Rattle.vital_sound.specs.SoundSections.{are_sound_sections, is_sound_functional, is_sound_state_table}
-use Rattle.vital_sound.specs.SoundStatements.{are_sound_parts, is_sound_check, is_sound_path_delay, is_sound_period_pulse, is_sound_recovery_removal, is_sound_reference, is_sound_setup_hold}
+use Rattle.vital_typed_cells.specs.ActualScopes.{ActualScope}
+use Rattle.vital_typed_cells.specs.ExprScopes.{Scope}
+use Rattle.vital_typed_cells.specs.Scopes.{StateTableTest, actuals_in, in_process, scope_of, state_tables_in}
+use Rattle.vital_typed_cells.specs.Sound.{IsSoundProcess}
+use Rattle.vital_typed_cells.specs.SoundActuals.{is_sound_path, is_sound_target}
+use Rattle.vital_typed_cells.specs.SoundAssignments.{is_sound_value}
+use Rattle.vital_typed_cells.specs.SoundSections.{are_sound_sections, is_sound_functional, is_sound_state_table}
+use Rattle.vital_typed_cells.specs.SoundStatements.{are_sound_parts, is_sound_check, is_sound_path_delay, is_sound_period_pulse, is_sound_recovery_removal, is_sound_reference, is_sound_setup_hold}
 use Rattle.vital_steps.specs.Sound.{has_state_table, statement_tests, tests}
 use Rattle.vital_steps.specs.Values.{scope_of_process}
 use Rattle.vital_timing.specs.declared.delay.Delay.{Delay}

@@ -20,10 +20,10 @@ use Rattle.vital_machine.specs.declared.steps.PathStep.{PathStep}
 use Rattle.vital_machine.specs.Fits.{AreShort, HasShortDelays, HasTimes, HaveTimes, IsProcess, most_effects_of}
 use Rattle.vital_path_delay.specs.Within.{IsWithin}
 use Rattle.vital_sections.specs.declared.path_delay.PathDelay.{PathDelay}
-use Rattle.vital_sound.specs.SoundActuals.{is_sound_path}
-use Rattle.vital_sound.specs.SoundSections.{are_sound_sections, is_sound_functional}
-use Rattle.vital_sound.specs.SoundStatements.{is_sound_check, is_sound_path_delay}
-use Rattle.vital_sound.specs.Trees.{is_sound_boolean, is_sound_delay, is_sound_level}
+use Rattle.vital_typed_cells.specs.SoundActuals.{is_sound_path}
+use Rattle.vital_typed_cells.specs.SoundSections.{are_sound_sections, is_sound_functional}
+use Rattle.vital_typed_cells.specs.SoundStatements.{is_sound_check, is_sound_path_delay}
+use Rattle.vital_typed_cells.specs.Trees.{is_sound_boolean, is_sound_delay, is_sound_level}
 use Rattle.vital_steps.specs.Laws.{SlotsBegin}
 use Rattle.vital_steps.specs.Scopes.{Scope}
 use Rattle.vital_steps.specs.Sound.{has_state_table, statement_tests, tests}

@@ -12,10 +12,10 @@ use Rattle.vital_cell.proofs.WiderLemmas.{IsWider, constant-wider, kind-wider}
 use Rattle.vital_execution.specs.Environments.{NamedWorth, cell_constants, process_constants}
 use Rattle.vital_objects.specs.declared.constant.Constant.{Constant}
 use Rattle.vital_objects.specs.declared.variable.Variable.{Variable}
-use Rattle.vital_sound.specs.Sound.{IsSound, IsSoundProcess, names_in_process}
-use Rattle.vital_sound.specs.SoundDeclarations.{AreSoundConstants, is_sound_kind, names_in_values}
-use Rattle.vital_sound.specs.TreeNames.{names_of_cell, names_of_process}
-use Rattle.vital_sound.proofs.Parts.{distinct-part, times-append}
+use Rattle.vital_typed_cells.specs.Sound.{IsSound, IsSoundProcess, names_in_process}
+use Rattle.vital_typed_cells.specs.SoundDeclarations.{AreSoundConstants, is_sound_kind, names_in_values}
+use Rattle.vital_typed_cells.specs.TreeNames.{names_of_cell, names_of_process}
+use Rattle.vital_typed_cells.proofs.Parts.{distinct-part, times-append}
 use Rattle.vital_steps.specs.Scopes.{Scope}
 use Rattle.vital_steps.specs.Sound.{tests}
 use Rattle.vital_steps.specs.Values.{AreSoundIn, named_worth, scope_of_cell, with_constants}

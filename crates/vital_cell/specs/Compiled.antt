@@ -16,10 +16,10 @@ use Rattle.vital_machine.specs.Fits.{AreProcesses}
 use Rattle.vital_machine.specs.Programs.{ProgramParts}
 use Rattle.vital_objects.specs.declared.variable.Variable.{Variable}
 use Rattle.vital_operands.specs.declared.tree.Control.TheVariants as control
-use Rattle.vital_sound.specs.KeptStates.{kept_by}
-use Rattle.vital_sound.specs.Sound.{IsSound, bit_count}
-use Rattle.vital_sound.specs.SoundDeclarations.{is_sound_kind}
-use Rattle.vital_sound.specs.SoundSections.{are_sound_sections}
+use Rattle.vital_typed_cells.specs.KeptStates.{kept_by}
+use Rattle.vital_typed_cells.specs.Sound.{IsSound, bit_count}
+use Rattle.vital_typed_cells.specs.SoundDeclarations.{is_sound_kind}
+use Rattle.vital_typed_cells.specs.SoundSections.{are_sound_sections}
 use Rattle.vital_steps.specs.declared.scope.Scope.{Scope as Scope'}
 use Rattle.vital_steps.specs.Scopes.{Scope, bit_of, lent, package_worths}
 use Rattle.vital_steps.specs.Sound.{has_state_table, statement_tests, tests}

@@ -12,7 +12,7 @@ use Rattle.vital_machine.specs.Fits.{StepsAreOfCell, kinds_of}
 use Rattle.vital_machine.specs.Machine.{activation}
 use Rattle.vital_machine.specs.Programs.{ProgramParts}
 use Rattle.vital_operands.specs.declared.tree.Control.TheVariants as control
-use Rattle.vital_sound.specs.Sound.{bit_count}
+use Rattle.vital_typed_cells.specs.Sound.{bit_count}
 use Rattle.vital_timing.specs.declared.delay.Delay.{Delay}
 use Rattle.vital_typed_cells.specs.declared.typed_cell.TypedCell.{TypedCell}
 use Rattle.vital_worths.specs.Packages.{packages_worth}

@@ -2,7 +2,7 @@
 use Rattle.std.specs.Prelude.{◌≡◌, true, List, Option, Some, None, ⊤}
 use Rattle.std.specs.List.{AllByRecursion}
 use Rattle.vital_execution.specs.Environments.{NamedDelay, NamedWorth}
-use Rattle.vital_sound.specs.Times.{are_short}
+use Rattle.vital_typed_cells.specs.Times.{are_short}
 use Rattle.vital_steps.specs.Scopes.{Scope}
 use Rattle.vital_worths.specs.Expressions.{Delay', Worth}
 

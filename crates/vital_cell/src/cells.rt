@@ -5,7 +5,7 @@ ghost use Rattle.vital_cell.specs.Compiled.{AreMade, IsCompiled, IsOfCell};
 ghost use Rattle.vital_cell.specs.Programs as spec;
 ghost use Rattle.vital_checked.specs.Fits.{FitsCell};
 ghost use Rattle.vital_execution.specs.Execution.{all_executed};
-ghost use Rattle.vital_sound.specs.Sound.{IsSound};
+ghost use Rattle.vital_typed_cells.specs.Sound.{IsSound};
 ghost use Rattle.vital_steps.specs.Scopes.{lent};
 
 use crate::known::{control_truths, known_names};

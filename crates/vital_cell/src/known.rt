@@ -4,7 +4,7 @@ ghost use Rattle.std.specs.Prelude.{◌≡◌, ◌++◌, [], IfOk, OnOk, map};
 ghost use Rattle.std.specs.Option.{option_map};
 ghost use Rattle.vital_cell.specs.Compiled.{AreKnown};
 ghost use Rattle.vital_execution.specs.Environments.{control_of, control_worth};
-ghost use Rattle.vital_sound.specs.SoundDeclarations.{AreSoundPackages};
+ghost use Rattle.vital_typed_cells.specs.SoundDeclarations.{AreSoundPackages};
 ghost use Rattle.vital_steps.specs.Scopes as scopes;
 ghost use Rattle.vital_steps.specs.Worths as worths;
 ghost use Rattle.vital_typed_cells.specs.Bits.{names_of};

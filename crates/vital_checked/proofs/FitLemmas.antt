@@ -7,7 +7,7 @@ use Rattle.vital_checked.specs.Answers.{default_values}
 use Rattle.vital_checked.specs.Fits.{FitsCell, IsDelayOf}
 use Rattle.vital_objects.specs.declared.generic.TimingGeneric.{TimingGeneric}
 use Rattle.vital_operands.specs.Named.{same_type}
-use Rattle.vital_sound.specs.Sound.{IsSound, IsSoundGeneric}
+use Rattle.vital_typed_cells.specs.Sound.{IsSound, IsSoundGeneric}
 use Rattle.vital_timing.specs.declared.delay.DelayType.{DelayType}
 use Rattle.vital_timing.specs.declared.delay.DelayType.TheVariants.{One, Six, Two}
 use Rattle.vital_timing.specs.Delays.{type_of}

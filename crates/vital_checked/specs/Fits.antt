@@ -3,7 +3,7 @@ use Rattle.std.specs.Prelude.{◌≡◌, true, List}
 use Rattle.std.specs.List.{AllZip}
 use Rattle.vital_objects.specs.declared.generic.TimingGeneric.{TimingGeneric}
 use Rattle.vital_operands.specs.Named.{same_type}
-use Rattle.vital_sound.specs.Times.{are_short}
+use Rattle.vital_typed_cells.specs.Times.{are_short}
 use Rattle.vital_timing.specs.declared.delay.Delay.{Delay}
 use Rattle.vital_timing.specs.Delays.{type_of}
 use Rattle.vital_typed_cells.specs.declared.typed_cell.TypedCell.{TypedCell}

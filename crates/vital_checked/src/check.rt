@@ -12,8 +12,7 @@ use vital_base::Breach;
 use vital_level1::{CellError, CellLevel, verdict};
 use vital_limits::PassedLimit;
 use vital_nodes::{Arch, Entity};
-use vital_sound::typed_is_sound;
-use vital_typed_cells::{TypedPackages, read_typed_cell};
+use vital_typed_cells::{TypedPackages, read_typed_cell, typed_is_sound};
 
 /// Why a cell has no typed tree.
 #[derive(Clone, Copy, PartialEq, Eq)]

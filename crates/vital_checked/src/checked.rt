@@ -1,7 +1,7 @@
 //! Cells that meet Level 1.
 
 ghost use Rattle.std.specs.Prelude.{◌≡◌};
-ghost use Rattle.vital_sound.specs.Sound.{IsSound};
+ghost use Rattle.vital_typed_cells.specs.Sound.{IsSound};
 
 use std::marker::Model;
 use vital_typed_cells::TypedCell;
@@ -15,7 +15,7 @@ pub struct Checked {
 
 impl Model for Checked {
     ghost use Rattle.std.specs.Coded.{codes};
-    ghost use Rattle.vital_sound.specs.Sound.{IsSound};
+    ghost use Rattle.vital_typed_cells.specs.Sound.{IsSound};
     ghost use Rattle.vital_typed_cells.specs.contracts.typed_cell.TypedCell as tree;
     ghost use Rattle.vital_typed_cells.specs.declared.typed_cell.TypedCell.{TypedCell};
 

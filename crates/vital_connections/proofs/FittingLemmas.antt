@@ -27,7 +27,7 @@ use Rattle.vital_nodes.specs.declared.expr.Reference.{Reference}
 use Rattle.vital_structure.specs.Shapes.{Part, Whole, Element, Slice, Shape, Scalar, Vector, bits_of, first_of, has_part, part_behind, shape_of_part}
 use Rattle.vital_structure.specs.Signals.{UnitSignal, level_literal}
 use Rattle.vital_structure.specs.Structures.{number_of}
-use Rattle.vital_walk.specs.Items.{actual}
+use Rattle.vital_nodes.specs.Items.{actual}
 
 -- ---- an actual
 

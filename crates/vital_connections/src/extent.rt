@@ -5,14 +5,13 @@ ghost use Rattle.vital_declarations.specs.Numbers.{length_between, length_of as 
 ghost use Rattle.vital_connections.specs.Objects as objects;
 ghost use Rattle.vital_nodes.specs.declared.expr.Direction.TheVariants.{To, Downto};
 ghost use Rattle.vital_structure.specs.Shapes as spec;
-ghost use Rattle.vital_walk.specs.Bounds.{shown};
+ghost use Rattle.vital_nodes.specs.Bounds.{shown};
 
 use std::alloc::{AllocError, Global};
 use vital_base::Name;
 use vital_naturals::Natural;
-use vital_nodes::Direction;
+use vital_nodes::{Direction, LiteralBounds};
 use vital_structure::{Part, Shape};
-use vital_walk::LiteralBounds;
 
 /// The number that a literal writes.
 fn number(alloc: Global, literal: &Name) -> Result<Natural, AllocError>

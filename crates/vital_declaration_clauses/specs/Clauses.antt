@@ -19,7 +19,7 @@ use Rattle.vital_nodes.specs.declared.decl.ObjectClass.{ObjectClass}
 use Rattle.vital_nodes.specs.declared.decl.ObjectClass.TheVariants as class
 use Rattle.vital_nodes.specs.declared.expr.Expr.{Expr}
 use Rattle.vital_nodes.specs.declared.stmt.Process.{Process}
-use Rattle.vital_walk.specs.Names.{identifier_of}
+use Rattle.vital_nodes.specs.Names.{identifier_of}
 use Rattle.vital_declaration_clauses.specs.declared.breaking.DeclarationClause.{DeclarationClause}
 use Rattle.vital_declaration_clauses.specs.declared.breaking.DeclarationClause.TheVariants as clause
 use Rattle.vital_declarations.specs.Constants.{character}

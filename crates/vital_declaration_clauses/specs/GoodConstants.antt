@@ -11,9 +11,9 @@ use Rattle.vital_names.specs.Meanings as meanings
 use Rattle.vital_nodes.specs.declared.decl.Object.{Object}
 use Rattle.vital_nodes.specs.declared.expr.Expr.{Expr}
 use Rattle.vital_nodes.specs.declared.expr.Item.{Item}
-use Rattle.vital_walk.specs.Items.{listed_items, positional_value}
-use Rattle.vital_walk.specs.Names.{identifier_of}
-use Rattle.vital_walk.specs.Objects.{is_constant}
+use Rattle.vital_nodes.specs.Items.{listed_items, positional_value}
+use Rattle.vital_nodes.specs.Names.{identifier_of}
+use Rattle.vital_nodes.specs.Objects.{is_constant}
 use Rattle.vital_declarations.specs.Constants.{character, columns_of, row_items}
 use Rattle.vital_declarations.specs.Numbers.{Range, length_of}
 use Rattle.vital_declarations.specs.Types.{DeclaredType, Plain, Vector, Table, Other, type_of}

@@ -13,7 +13,7 @@ use Rattle.vital_nodes.specs.declared.stmt.Process.{Process}
 use Rattle.vital_nodes.specs.declared.unit.Arch.{Arch}
 use Rattle.vital_nodes.specs.Layers.{ConcLayer}
 use Rattle.vital_nodes.specs.Places.{identifier_of_decl}
-use Rattle.vital_walk.specs.Statements.{all_concurrent}
+use Rattle.vital_nodes.specs.Statements.{all_concurrent}
 
 -- Declarations that stand together, and the process that they are of, if they are of one. What a block declares is seen nowhere.
 pub record Region : Type 0 where

@@ -17,8 +17,7 @@ use vital_declarations::{
     variable_type,
 };
 use vital_names::{CellNames, CellUnit, LibraryNames, ProcessNames, Site, TypeName, viewpoints};
-use vital_nodes::{Alias, Decl, Expr, Object, ObjectClass, Subtype};
-use vital_walk::{HasPlace, identifier_of};
+use vital_nodes::{Alias, Decl, Expr, HasPlace, Object, ObjectClass, Subtype, identifier_of};
 
 /// A clause that declarations of an architecture, its blocks and its processes may break.
 #[derive(Clone, Copy)]

@@ -7,13 +7,14 @@ ghost use Rattle.vital_declaration_clauses.specs.Scopes.{lent};
 ghost use Rattle.vital_declarations.specs.Numbers.{range_of};
 ghost use Rattle.vital_declarations.specs.Types as types;
 ghost use Rattle.vital_names.specs.Meanings as meanings;
-ghost use Rattle.vital_walk.specs.Bounds.{shown};
+ghost use Rattle.vital_nodes.specs.Bounds.{shown};
 
 use crate::scope::Scope;
 use vital_declarations::{DeclaredType, character, columns_of, has_length, row_items, type_of};
 use vital_names::{Declared, LibraryNames, Meaning, TypeName};
-use vital_nodes::{Expr, Item, Object};
-use vital_walk::{LiteralBounds, identifier_of, is_constant, listed_items, positional_value};
+use vital_nodes::{
+    Expr, Item, LiteralBounds, Object, identifier_of, is_constant, listed_items, positional_value,
+};
 
 /// Whether an object is a constant of VitalTableSymbolType.
 pub fn is_symbol(library: &LibraryNames<'_>, object: &Object) -> bool

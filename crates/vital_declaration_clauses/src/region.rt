@@ -8,8 +8,7 @@ ghost use Rattle.vital_declaration_clauses.specs.Regions.{of_process, outside, o
 use std::alloc::{AllocError, Global};
 use std::marker::Model;
 use vital_names::{CellNames, ProcessNames};
-use vital_nodes::{Conc, Decl, Process};
-use vital_walk::all_concurrent;
+use vital_nodes::{Conc, Decl, Process, all_concurrent};
 
 /// Declarations that stand together: those of an architecture, of a block or of a process.
 #[derive(Drop)]

@@ -6,7 +6,7 @@ use Rattle.vital_nodes.specs.declared.expr.Actual.TheViews.{out-Expr}
 use Rattle.vital_nodes.specs.declared.expr.Expr.{Expr}
 use Rattle.vital_nodes.specs.declared.expr.Item.{Item}
 use Rattle.vital_nodes.specs.Layers.{ExprLayer}
-use Rattle.vital_walk.specs.Items.{listed_items, positional_value}
+use Rattle.vital_nodes.specs.Items.{listed_items, positional_value}
 
 -- The byte of a character literal.
 abbrev pub character_in : ExprLayer → Option ℕ

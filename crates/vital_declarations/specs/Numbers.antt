@@ -4,7 +4,7 @@ use Rattle.std.specs.Char.{is_ascii_digit}
 use Rattle.std.specs.Str.Parse.{digits_value}
 use Rattle.vital_nodes.specs.declared.expr.Direction.{Direction}
 use Rattle.vital_nodes.specs.declared.expr.Direction.TheVariants.{To, Downto}
-use Rattle.vital_walk.specs.Bounds.{Bounds}
+use Rattle.vital_nodes.specs.Bounds.{Bounds}
 
 -- The natural number that an integer literal writes, however long it is. Underscores count for nothing.
 abbrev pub number : List ℕ → ℕ

@@ -20,8 +20,8 @@ use Rattle.vital_nodes.specs.declared.expr.Item.{Item}
 use Rattle.vital_nodes.specs.declared.expr.Reference.{Reference}
 use Rattle.vital_nodes.specs.declared.expr.Suffix.{Suffix}
 use Rattle.vital_nodes.specs.Layers.{ChoiceLayer, ItemLayer}
-use Rattle.vital_walk.specs.Bounds.{literal_integer, shown}
-use Rattle.vital_walk.specs.Names.{items_of}
+use Rattle.vital_nodes.specs.Bounds.{literal_integer, shown}
+use Rattle.vital_nodes.specs.Names.{items_of}
 use Rattle.vital_declarations.specs.declared.alias.AliasTarget.{AliasTarget as AliasTarget'}
 use Rattle.vital_declarations.specs.declared.alias.AliasTarget.TheVariants as borrowed_target
 use Rattle.vital_declarations.specs.declared.operand.OperandKind.{OperandKind as OperandKind'}

@@ -8,7 +8,7 @@ use Rattle.vital_nodes.specs.declared.decl.Subtype.{Subtype}
 use Rattle.vital_nodes.specs.declared.expr.Item.{Item}
 use Rattle.vital_nodes.specs.declared.expr.Range.{Range as Range'}
 use Rattle.vital_nodes.specs.declared.expr.Reference.{Reference}
-use Rattle.vital_walk.specs.Bounds.{Bounds, bounds_of_range, items_at_end, literal_bounds, range_of_item, shown}
+use Rattle.vital_nodes.specs.Bounds.{Bounds, bounds_of_range, items_at_end, literal_bounds, range_of_item, shown}
 use Rattle.vital_declarations.specs.declared.declared_type.DeclaredType.{DeclaredType as DeclaredType'}
 use Rattle.vital_declarations.specs.declared.declared_type.DeclaredType.TheVariants as borrowed
 use Rattle.vital_declarations.specs.declared.declared_type.TableType.{TableType}

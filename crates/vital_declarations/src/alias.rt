@@ -13,8 +13,9 @@ use crate::range::offset;
 use crate::variable::{VariableType, variable_type};
 use vital_base::Name;
 use vital_names::{CellNames, Declared, LibraryNames, Meaning, PackageConstant, Site, TypeName};
-use vital_nodes::{Alias, Choice, Item, Object, ObjectClass, Reference, Subtype, Suffix};
-use vital_walk::literal_integer;
+use vital_nodes::{
+    Alias, Choice, Item, Object, ObjectClass, Reference, Subtype, Suffix, literal_integer,
+};
 
 /// What an alias names.
 #[derive(Clone, Copy)]

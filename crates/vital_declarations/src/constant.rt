@@ -4,8 +4,7 @@ ghost use Rattle.std.specs.Prelude.{◌≡◌};
 ghost use Rattle.std.specs.Option.{option_copied};
 ghost use Rattle.vital_declarations.specs.Constants as spec;
 
-use vital_nodes::{Expr, Item};
-use vital_walk::{listed_items, positional_value};
+use vital_nodes::{Expr, Item, listed_items, positional_value};
 
 /// The byte of a character literal.
 pub fn character(value: &Expr) -> Option<u8>

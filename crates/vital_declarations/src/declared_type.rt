@@ -3,11 +3,12 @@
 ghost use Rattle.std.specs.Prelude.{◌≡◌, is_some};
 ghost use Rattle.std.specs.Option.{option_copied, option_map};
 ghost use Rattle.vital_declarations.specs.Types as spec;
-ghost use Rattle.vital_walk.specs.Bounds.{items_at_end, shown};
+ghost use Rattle.vital_nodes.specs.Bounds.{items_at_end, shown};
 
 use vital_names::{LibraryNames, TypeName};
-use vital_nodes::{Choice, Item, Reference, Subtype, Suffix};
-use vital_walk::{LiteralBounds, literal_bounds, literal_integer};
+use vital_nodes::{
+    Choice, Item, LiteralBounds, Reference, Subtype, Suffix, literal_bounds, literal_integer,
+};
 
 /// A type of tables (IEEE 1076.4, package VITAL_Primitives).
 #[derive(Clone, Copy, PartialEq, Eq)]

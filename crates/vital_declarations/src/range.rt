@@ -3,12 +3,11 @@
 ghost use Rattle.std.specs.Prelude.{◌≡◌, ◌==◌, ◌-◌, nat_le, None, if◌then◌else◌};
 ghost use Rattle.std.specs.Option.{option_and_then};
 ghost use Rattle.vital_declarations.specs.Numbers.{in_word, length_of, number, offset_of, range_of};
-ghost use Rattle.vital_walk.specs.Bounds.{shown};
+ghost use Rattle.vital_nodes.specs.Bounds.{shown};
 
 use crate::number::gap;
 use vital_base::Name;
-use vital_nodes::Direction;
-use vital_walk::LiteralBounds;
+use vital_nodes::{Direction, LiteralBounds};
 
 /// How many numbers are in a range, if a word holds that many. A null range has none.
 pub fn length(bounds: LiteralBounds<'_>) -> Option<usize>

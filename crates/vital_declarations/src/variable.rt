@@ -5,13 +5,12 @@ ghost use Rattle.std.specs.Option.{option_map};
 ghost use Rattle.vital_declarations.specs.Numbers.{range_of};
 ghost use Rattle.vital_declarations.specs.Operands as spec;
 ghost use Rattle.vital_declarations.specs.Types as types;
-ghost use Rattle.vital_walk.specs.Bounds.{shown};
+ghost use Rattle.vital_nodes.specs.Bounds.{shown};
 
 use crate::declared_type::{DeclaredType, type_of};
 use crate::range::length;
 use vital_names::{LibraryNames, TypeName};
-use vital_nodes::Subtype;
-use vital_walk::LiteralBounds;
+use vital_nodes::{LiteralBounds, Subtype};
 
 /// A vector variable is at most so long.
 const MOST_ELEMENTS: usize = 256;

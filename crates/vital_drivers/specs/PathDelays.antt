@@ -9,9 +9,9 @@ use Rattle.vital_nodes.specs.declared.stmt.Conc.{Conc}
 use Rattle.vital_nodes.specs.declared.stmt.Process.{Process}
 use Rattle.vital_nodes.specs.declared.stmt.Stmt.{Stmt}
 use Rattle.vital_nodes.specs.Places.{place_of_conc, place_of_stmt}
-use Rattle.vital_walk.specs.Items.{actual}
-use Rattle.vital_walk.specs.Names.{identifier_of}
-use Rattle.vital_walk.specs.Statements.{all_concurrent, all_sequential}
+use Rattle.vital_nodes.specs.Items.{actual}
+use Rattle.vital_nodes.specs.Names.{identifier_of}
+use Rattle.vital_nodes.specs.Statements.{all_concurrent, all_sequential}
 use Rattle.vital_names.specs.declared.predeclared.Procedure.{Procedure}
 use Rattle.vital_names.specs.declared.predeclared.Procedure.TheVariants as procedure_is
 use Rattle.vital_names.specs.Sites.{Cell}

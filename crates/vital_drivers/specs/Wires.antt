@@ -6,8 +6,8 @@ use Rattle.vital_nodes.specs.declared.expr.Expr.{Expr}
 use Rattle.vital_nodes.specs.declared.expr.Item.{Item}
 use Rattle.vital_nodes.specs.declared.identifier.Identifier.{Identifier}
 use Rattle.vital_nodes.specs.declared.stmt.Conc.{Conc}
-use Rattle.vital_walk.specs.Items.{actual}
-use Rattle.vital_walk.specs.Names.{identifier_of}
+use Rattle.vital_nodes.specs.Items.{actual}
+use Rattle.vital_nodes.specs.Names.{identifier_of}
 use Rattle.vital_names.specs.declared.predeclared.Procedure.{Procedure}
 use Rattle.vital_names.specs.declared.predeclared.Procedure.TheVariants as procedure_is
 use Rattle.vital_names.specs.Sites.{Cell}

@@ -4,8 +4,7 @@ ghost use Rattle.std.specs.Prelude.{◌≡◌};
 ghost use Rattle.vital_drivers.specs.Actuals as spec;
 
 use vital_base::Place;
-use vital_nodes::{Actual, Item};
-use vital_walk::HasPlace;
+use vital_nodes::{Actual, HasPlace, Item};
 
 /// Where the actual of an item stands: behind `=>`, or where the item stands.
 pub fn place_of_actual(item: &Item) -> Place

@@ -11,9 +11,11 @@ use std::alloc::{AllocError, Global};
 use vital_base::Place;
 use vital_calls::{Call, actual_of, formals_of_procedure};
 use vital_names::{CellNames, Procedure, ProcessNames};
-use vital_nodes::{Conc, Identifier, Item, Process, Stmt};
+use vital_nodes::{
+    Conc, HasPlace, Identifier, Item, Process, Stmt, actual, all_concurrent, all_sequential,
+    identifier_of,
+};
 use vital_statements::{as_process, call_of_conc, call_of_stmt, procedure_of, statements_of};
-use vital_walk::{HasPlace, actual, all_concurrent, all_sequential, identifier_of};
 
 /// A call of a path delay.
 #[derive(Clone, Copy)]

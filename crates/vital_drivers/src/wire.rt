@@ -9,11 +9,10 @@ ghost use Rattle.vital_drivers.specs.Wires as spec;
 use crate::named::means_generic;
 use vital_calls::{Call, Formals, actual_of, formals_of_procedure, has_wrong_formals};
 use vital_names::{CellNames, Procedure};
-use vital_nodes::{Conc, Expr, Identifier, Item};
+use vital_nodes::{Conc, Expr, Identifier, Item, actual, identifier_of};
 use vital_statements::{
     bare_identifier, call_of_conc, means_read_port, means_signal, procedure_of,
 };
-use vital_walk::{actual, identifier_of};
 
 /// A signal and the port that comes to it, by their names in a call.
 #[derive(Clone, Copy)]

@@ -15,9 +15,8 @@ use std::alloc::{AllocError, Global};
 use std::collections::HashSet;
 use vital_base::Place;
 use vital_names::CellNames;
-use vital_nodes::{Block, Conc, Decl};
+use vital_nodes::{Block, Conc, Decl, HasPlace};
 use vital_statements::{as_block, put_if, statements_of};
-use vital_walk::HasPlace;
 
 /// The places where L1.6 is broken: each declaration in a block of the architecture, each statement in it that is no call of
 /// VitalWireDelay of an internal signal, an in or inout port and that port's tipd generic, and each such call whose signal or

@@ -17,8 +17,8 @@ use Rattle.vital_nodes.proofs.Walking.{folded-law, nodes-law}
 use Rattle.vital_operands.specs.Calls.{only_items}
 use Rattle.vital_operands.specs.Faults.{has_fault, is_faulty, is_faulty_in, own_breach}
 use Rattle.vital_timing.specs.declared.delay.DelayType.{DelayType}
-use Rattle.vital_walk.specs.Items.{actual_in, value_in_actual, value_in_choice}
-use Rattle.vital_walk.specs.Names.{items_in}
+use Rattle.vital_nodes.specs.Items.{actual_in, value_in_actual, value_in_choice}
+use Rattle.vital_nodes.specs.Names.{items_in}
 use Rattle.vital_expr.specs.Names.{level_of_items, name_in, vector_of_items}
 use Rattle.vital_expr.specs.Reading.{Reading, broken_reading, if_given}
 use Rattle.vital_expr.specs.Readings.{Context, breach, expr_reading, reading, reading_step, worth}

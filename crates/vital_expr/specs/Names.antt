@@ -20,8 +20,8 @@ use Rattle.vital_operands.specs.Calls.{function_named, only_items, table_first}
 use Rattle.vital_operands.specs.Items.{are_values}
 use Rattle.vital_operands.specs.Named.{boolean_named, delay_named, element_named, is_text_named, level_named, table_named, time_named, vector_named}
 use Rattle.vital_operands.specs.Positions.{Position}
-use Rattle.vital_walk.specs.Items.{actual}
-use Rattle.vital_walk.specs.Names.{identifier_of}
+use Rattle.vital_nodes.specs.Items.{actual}
+use Rattle.vital_nodes.specs.Names.{identifier_of}
 use Rattle.vital_expr.specs.Outcomes.{Outcome, and_then, both, broken, map_typed, or_broken, typed}
 use Rattle.vital_expr.specs.Reading.{Reading, broken_reading, first_of, levels_of}
 use Rattle.vital_expr.specs.Vectors.{if_fits, if_vector_fits, length_of}

@@ -15,7 +15,7 @@ use Rattle.vital_operands.specs.declared.tree.VectorExpr.{VectorExpr}
 use Rattle.vital_operands.specs.Faults.{own_breach}
 use Rattle.vital_operands.specs.Positions.{Position}
 use Rattle.vital_timing.specs.declared.delay.DelayType.{DelayType}
-use Rattle.vital_walk.specs.Items.{actual}
+use Rattle.vital_nodes.specs.Items.{actual}
 use Rattle.vital_expr.specs.Booleans.{boolean_in, is_boolean_in}
 use Rattle.vital_expr.specs.Delays.{delay_in, literal_in, time_in}
 use Rattle.vital_expr.specs.Levels.{level_in}

@@ -13,10 +13,9 @@ use crate::trees::Trees;
 use sqlite_items::Items;
 use std::alloc::AllocError;
 use vital_base::{Place, Time};
-use vital_nodes::{Choice, Expr, Item, Reference};
+use vital_nodes::{Choice, Expr, Item, Reference, actual};
 use vital_operands::{DelayExpr, TimeExpr, are_positional, even_delay, physical_time};
 use vital_timing::{Delay, DelayType};
-use vital_walk::actual;
 
 /// The time that an expression writes itself: a number with a unit.
 fn time_written(expr: &Expr) -> Option<Time>

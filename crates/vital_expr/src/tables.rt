@@ -9,7 +9,7 @@ ghost use Rattle.vital_expr.specs.Seen.{lent};
 ghost use Rattle.vital_expr.specs.Steps.{item_reading};
 ghost use Rattle.vital_expr.specs.Alone as alone;
 ghost use Rattle.vital_operands.specs.Named.{table_named};
-ghost use Rattle.vital_walk.specs.Names.{identifier_of};
+ghost use Rattle.vital_nodes.specs.Names.{identifier_of};
 
 use crate::lengths::{if_vector_fits, length_of};
 use crate::reader::Reader;
@@ -17,9 +17,8 @@ use crate::vector_forms::list_of_one;
 use sqlite_items::Boxed;
 use std::alloc::AllocError;
 use vital_base::Place;
-use vital_nodes::{Expr, Item};
+use vital_nodes::{Expr, Item, actual, identifier_of};
 use vital_operands::{ConstantName, LevelExpr, TruthTableCall, VectorExpr};
-use vital_walk::{actual, identifier_of};
 
 /// The table of a name, with the number of its columns.
 fn table_named(

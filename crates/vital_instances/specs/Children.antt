@@ -11,7 +11,7 @@ use Rattle.vital_nodes.specs.declared.expr.Suffix.{Suffix}
 use Rattle.vital_nodes.specs.declared.identifier.Identifier.{Identifier}
 use Rattle.vital_nodes.specs.declared.stmt.Instance.{Instance}
 use Rattle.vital_nodes.specs.declared.unit.Units.{Units}
-use Rattle.vital_walk.specs.Names.{selected}
+use Rattle.vital_nodes.specs.Names.{selected}
 use Rattle.vital_associations.specs.Associations.{Association}
 use Rattle.vital_associations.specs.Associations as associations
 use Rattle.vital_associations.specs.PortMaps.{AssociationFault, associated}

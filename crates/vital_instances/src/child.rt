@@ -4,7 +4,7 @@ ghost use Rattle.std.specs.Prelude.{◌≡◌, unwrap_or};
 ghost use Rattle.vital_instances.specs.Children as spec;
 ghost use Rattle.vital_instances.specs.Faults.{IsAnswer};
 ghost use Rattle.vital_structure.specs.Structures.{signals_of};
-ghost use Rattle.vital_walk.specs.Names.{selected};
+ghost use Rattle.vital_nodes.specs.Names.{selected};
 
 use crate::entity_ports::EntityPorts;
 use crate::fault::{Fault, InstancesError};

@@ -19,7 +19,7 @@ use Rattle.vital_nodes.specs.declared.expr.Expr.{Expr}
 use Rattle.vital_nodes.specs.declared.unit.Entity.{Entity}
 use Rattle.vital_timing.specs.declared.delay.DelayType.{DelayType}
 use Rattle.vital_timing.specs.declared.delay.DelayType.TheVariants.{One, Two, Six}
-use Rattle.vital_walk.specs.Names.{identifier_of}
+use Rattle.vital_nodes.specs.Names.{identifier_of}
 use Rattle.vital_level0.specs.declared.parts.Prefix.{Prefix}
 use Rattle.vital_level0.specs.declared.parts.Prefix.TheVariants.{Tpd, Tipd}
 use Rattle.vital_level0.specs.Defaults.{is_delay, is_string}

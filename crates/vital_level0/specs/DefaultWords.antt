@@ -6,7 +6,7 @@ use Rattle.vital_nodes.specs.declared.decl.Iface.{Iface}
 use Rattle.vital_nodes.specs.declared.decl.Subtype.{Subtype}
 use Rattle.vital_timing.specs.declared.delay.DelayType.{DelayType}
 use Rattle.vital_timing.specs.declared.delay.DelayType.TheVariants.{One, Two, Six}
-use Rattle.vital_walk.specs.Names.{identifier_of}
+use Rattle.vital_nodes.specs.Names.{identifier_of}
 use Rattle.vital_level0.specs.declared.default_words.DefaultWord.{DefaultWord}
 use Rattle.vital_level0.specs.declared.default_words.DefaultWord.TheVariants as word
 use Rattle.vital_level0.specs.TypeNames.{delay_type, is_plain}

@@ -6,8 +6,8 @@ use Rattle.std.specs.Str.{bytes_eq}
 use Rattle.vital_nodes.specs.declared.decl.Subtype.{Subtype}
 use Rattle.vital_timing.specs.declared.delay.DelayType.{DelayType}
 use Rattle.vital_timing.specs.declared.delay.DelayType.TheVariants.{One, Two, Six}
-use Rattle.vital_walk.specs.Bounds.{items_at_end, literal_bounds}
-use Rattle.vital_walk.specs.Names.{last_identifier}
+use Rattle.vital_nodes.specs.Bounds.{items_at_end, literal_bounds}
+use Rattle.vital_nodes.specs.Names.{last_identifier}
 
 -- One of the words is this name.
 abbrev pub is_among : List (List ℕ) → List ℕ → Bool

@@ -3,8 +3,7 @@
 ghost use Rattle.std.specs.Prelude.{◌≡◌};
 ghost use Rattle.vital_level0.specs.Clauses.{is_entity_class, is_level_0, is_level_0_specification, is_named, is_true};
 
-use vital_nodes::{Decl, Designator, EntityClass, Expr, Specification};
-use vital_walk::identifier_of;
+use vital_nodes::{Decl, Designator, EntityClass, Expr, Specification, identifier_of};
 
 /// Whether a declaration is the attribute specification of Level 0 of the entity of this name.
 pub fn is_level_0(name: &[u8], declaration: &Decl) -> bool

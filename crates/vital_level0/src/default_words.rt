@@ -5,9 +5,8 @@ ghost use Rattle.std.specs.Str.{bytes_eq};
 ghost use Rattle.vital_level0.specs.DefaultWords as spec;
 
 use crate::type_name::{delay_type, is_boolean};
-use vital_nodes::{Iface, Subtype};
+use vital_nodes::{Iface, Subtype, identifier_of};
 use vital_timing::DelayType;
-use vital_walk::identifier_of;
 
 /// A word that the default of a generic is for its type. It names nothing, so that no declaration hides it.
 #[derive(Clone, Copy, PartialEq, Eq)]

@@ -16,8 +16,7 @@ use crate::port_index::PortIndex;
 use crate::split::split_name;
 use std::alloc::{AllocError, Global};
 use vital_base::{Breach, Clause, Place};
-use vital_nodes::{Conc, Decl, Entity, Iface};
-use vital_walk::HasPlace;
+use vital_nodes::{Conc, Decl, Entity, HasPlace, Iface};
 
 /// The breaches of an entity. Each part of it is looked at once.
 pub fn of_entity(alloc: Global, entity: &Entity) -> Result<Vec<Breach>, AllocError>

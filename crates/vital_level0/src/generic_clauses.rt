@@ -6,9 +6,8 @@ ghost use Rattle.vital_level0.specs.Clauses.{begins_as_timing, breaks_8, breaks_
 use crate::default_value::{is_delay, is_string};
 use crate::parts::Prefix;
 use crate::type_name::{delay_type, is_boolean, is_text};
-use vital_nodes::Iface;
+use vital_nodes::{Iface, identifier_of};
 use vital_timing::DelayType;
-use vital_walk::identifier_of;
 
 /// Whether a name begins with the word of a prefix and an underscore.
 pub fn begins_as_timing(name: &[u8]) -> bool

@@ -3,11 +3,10 @@
 ghost use Rattle.std.specs.Prelude.{◌≡◌, [], ◌∷◌, codes, is_some};
 ghost use Rattle.std.specs.Option.{option_map};
 ghost use Rattle.vital_level0.specs.TypeNames as spec;
-ghost use Rattle.vital_walk.specs.Bounds.{items_at_end};
+ghost use Rattle.vital_nodes.specs.Bounds.{items_at_end};
 
-use vital_nodes::{Reference, Subtype, Suffix};
+use vital_nodes::{Reference, Subtype, Suffix, last_identifier, literal_bounds};
 use vital_timing::DelayType;
-use vital_walk::{last_identifier, literal_bounds};
 
 /// The last identifier of a type's name.
 fn type_name(subtype: &Subtype) -> Option<&[u8]>

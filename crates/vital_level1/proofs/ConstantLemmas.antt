@@ -6,7 +6,7 @@ use Rattle.std.specs.Option.{option_map, option_or}
 use Rattle.std.proofs.lemmas.Bool.Decides.{nat_tests}
 use Rattle.vital_base.specs.declared.place.Place.{Place}
 use Rattle.vital_operands.specs.Faults.{is_same_place}
-use Rattle.vital_walk.proofs.Lists.{flat_map-one, map-take}
+use Rattle.vital_nodes.proofs.Lists.{flat_map-one, map-take}
 
 -- ---- places
 

@@ -8,7 +8,7 @@ use Rattle.vital_nodes.specs.Walk.{nodes_of_all}
 use Rattle.vital_uses.specs.declared.sited.SitedNode.{SitedNode as SitedNode'}
 use Rattle.vital_uses.specs.Nodes.{nodes_of_statements}
 use Rattle.vital_uses.specs.Sited.{SitedNode, lent_node, own_site}
-use Rattle.vital_walk.specs.Seen.{seen}
+use Rattle.vital_nodes.specs.Seen.{seen}
 
 seen-lent : (vs : List SitedNode') → map (λ (v : SitedNode'). seen v.node) vs ≡ map (λ (v : SitedNode). v.node) (map lent_node vs)
 seen-lent [] = refl

@@ -5,7 +5,7 @@ use Rattle.std.specs.List.{filter, filter_map}
 use Rattle.std.proofs.lemmas.List.Folds.{list_any-append}
 use Rattle.vital_nodes.specs.declared.unit.Units.{Units}
 use Rattle.vital_typed_statements.specs.declared.table_use.TableUse.{TableUse}
-use Rattle.vital_walk.proofs.Lists.{filter_map-one}
+use Rattle.vital_nodes.proofs.Lists.{filter_map-one}
 use Rattle.vital_level1.specs.declared.package_names.NamedConstant.{NamedConstant}
 use Rattle.vital_level1.specs.Packages.{places_where}
 use Rattle.vital_level1.specs.Uses.{is_among, wrong_number, wrong_numbers}

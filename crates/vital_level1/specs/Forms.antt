@@ -23,8 +23,8 @@ use Rattle.vital_uses.specs.Nodes.{sited_declarations, sited_interface}
 use Rattle.vital_uses.specs.Parts.{value_of_decl}
 use Rattle.vital_uses.specs.Sited.{Sited}
 use Rattle.vital_uses.specs.Statements.{processes, statements}
-use Rattle.vital_walk.specs.Calls.{call}
-use Rattle.vital_walk.specs.Statements.{all_sequential}
+use Rattle.vital_nodes.specs.Calls.{call}
+use Rattle.vital_nodes.specs.Statements.{all_sequential}
 
 -- ---- what is not of its form
 

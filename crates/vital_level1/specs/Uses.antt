@@ -18,7 +18,7 @@ use Rattle.vital_typed_statements.specs.declared.table_use.UsedTable.{UsedTable}
 use Rattle.vital_typed_statements.specs.declared.table_use.UsedTable.TheVariants as used
 use Rattle.vital_uses.specs.Nodes.{sited_declarations}
 use Rattle.vital_uses.specs.Sited.{Sited}
-use Rattle.vital_walk.specs.Objects.{is_constant}
+use Rattle.vital_nodes.specs.Objects.{is_constant}
 use Rattle.vital_level1.specs.declared.package_names.NamedConstant.{NamedConstant}
 use Rattle.vital_level1.specs.Packages.{places_where}
 

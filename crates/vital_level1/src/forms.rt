@@ -8,7 +8,7 @@ ghost use Rattle.vital_typed_statements.specs.Statements.{concurrent_call};
 ghost use Rattle.vital_uses.specs.Nodes.{nodes_of_statements};
 ghost use Rattle.vital_uses.specs.Sited.{lent_node};
 ghost use Rattle.vital_uses.specs.Statements.{processes as processes'};
-ghost use Rattle.vital_walk.specs.Statements.{all_sequential};
+ghost use Rattle.vital_nodes.specs.Statements.{all_sequential};
 
 use crate::uses::{put_of_interface, put_of_regions, put_truth_uses, put_truth_uses_at};
 use std::alloc::{AllocError, Global};
@@ -16,12 +16,11 @@ use vital_base::Place;
 use vital_declaration_clauses::Region;
 use vital_expr::Reader;
 use vital_names::{CellNames, CellUnit, ProcessNames};
-use vital_nodes::{Conc, Reference, Stmt};
+use vital_nodes::{Conc, Node, Reference, Stmt, call, nodes_of};
 use vital_operands::{Faults, Position};
 use vital_typed_declarations::{put_broken_in_interface, put_broken_in_regions};
 use vital_typed_statements::{TableUse, read_call, read_statement};
 use vital_uses::{CellStatements, ProcessUses, SitedNode};
-use vital_walk::{Node, call, nodes_of};
 
 /// Puts where a concurrent call is not of its form at the end, and the tables that it uses.
 fn put_of_call<'a>(

@@ -20,11 +20,10 @@ use std::collections::{BTreeMap, BTreeSet};
 use vital_base::Place;
 use vital_declaration_clauses::{Region, Scope};
 use vital_names::{CellNames, CellUnit, Site};
-use vital_nodes::{Decl, Object};
+use vital_nodes::{Decl, Object, is_constant};
 use vital_package_constants::{is_wrong_in, is_wrong_package};
 use vital_typed_declarations::{SitedDeclaration, sited_declarations};
 use vital_typed_statements::{TableUse, UsedTable};
-use vital_walk::is_constant;
 
 /// The constants of a cell with their sites, by the places of their identifiers.
 type CellConstants<'a> = BTreeMap<Place, (Site<'a>, &'a Object)>;

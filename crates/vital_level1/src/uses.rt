@@ -8,18 +8,17 @@ ghost use Rattle.vital_typed_declarations.specs.Declarations.{lent_sited};
 ghost use Rattle.vital_typed_statements.specs.Uses.{truth_use_at as truth_use_at'};
 ghost use Rattle.vital_nodes.specs.Nodes.{expression_if_there};
 ghost use Rattle.vital_nodes.specs.Walk.{nodes_of_all as nodes_of_all'};
-ghost use Rattle.vital_walk.specs.Seen.{seen};
+ghost use Rattle.vital_nodes.specs.Seen.{seen};
 
 use std::alloc::{AllocError, Global};
 use vital_declaration_clauses::Region;
 use vital_expr::Reader;
 use vital_names::{CellNames, CellUnit};
-use vital_nodes::{Decl, Expr, Iface};
+use vital_nodes::{Decl, Expr, Iface, Node, nodes_of};
 use vital_operands::{Faults, Position};
 use vital_typed_declarations::{SitedDeclaration, sited_declarations};
 use vital_typed_statements::{TableUse, truth_use_at};
 use vital_uses::SitedNode;
-use vital_walk::{Node, nodes_of};
 
 /// Puts the truth table that a node uses at the end. Only a name uses one.
 fn put_truth_use(

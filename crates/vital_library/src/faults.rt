@@ -10,8 +10,7 @@ use crate::names::{DeclaredNames, put_name};
 use crate::unit_at::UnitAt;
 use std::alloc::{AllocError, Global};
 use std::collections::HashSet;
-use vital_nodes::{Arch, Unit};
-use vital_walk::HasIdentifier;
+use vital_nodes::{Arch, HasIdentifier, Unit};
 
 /// The fault of units that counts, if there is one.
 pub fn least_fault<'a>(alloc: Global, units: &'a [UnitAt<'a>]) -> Result<Option<Fault>, AllocError>

@@ -8,8 +8,7 @@ ghost use Rattle.vital_library.specs.Names.{has_name, has_names, is_declared};
 
 use std::alloc::{AllocError, Global};
 use std::collections::HashSet;
-use vital_nodes::Unit;
-use vital_walk::HasIdentifier;
+use vital_nodes::{HasIdentifier, Unit};
 
 /// Names that were declared, borrowed from the units.
 #[derive(Drop)]

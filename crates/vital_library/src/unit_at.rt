@@ -8,8 +8,7 @@ ghost use Rattle.vital_library.specs.Units.{units_of};
 use crate::error::{LibraryError, MOST_UNITS};
 use crate::position::Position;
 use std::alloc::Global;
-use vital_nodes::{Unit, Units};
-use vital_walk::HasPlace;
+use vital_nodes::{HasPlace, Unit, Units};
 
 /// A unit and where it stands.
 #[derive(Clone, Copy)]

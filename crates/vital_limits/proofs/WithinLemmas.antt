@@ -17,8 +17,8 @@ use Rattle.vital_nodes.specs.declared.stmt.Stmt.{Stmt}
 use Rattle.vital_nodes.specs.declared.unit.Unit.{Unit as Unit'}
 use Rattle.vital_nodes.specs.Nodes.{Node, Declaration, Interface, Concurrent, Sequential, Expression, Item, Name, parts_of, parts_of_conc, parts_of_decl, parts_of_expr, parts_of_iface, parts_of_item, parts_of_stmt, parts_of_suffix, parts_of_unit}
 use Rattle.vital_nodes.specs.Walk.{nodes_of, nodes_of_all}
-use Rattle.vital_walk.proofs.Lists.{flat_map-one, flat_map-seen, put-two, turn-behind}
-use Rattle.vital_walk.proofs.Values.{WalkLaw}
+use Rattle.vital_nodes.proofs.Lists.{flat_map-one, flat_map-seen, put-two, turn-behind}
+use Rattle.vital_nodes.proofs.Values.{WalkLaw}
 
 flat-flat : {A B C : Type 0} (f : B → List C) (g : A → List B) (xs : List A) → flat_map f (flat_map g xs) ≡ flat_map (λ x. flat_map f (g x)) xs
 flat-flat f g [] = refl

@@ -4,7 +4,7 @@ use Rattle.std.specs.List.{fold}
 use Rattle.std.specs.Option.{option_map_or}
 use Rattle.vital_nodes.specs.declared.expr.Expr.{Expr}
 use Rattle.vital_nodes.specs.declared.expr.Item.{Item}
-use Rattle.vital_walk.specs.Items.{actual, listed_items}
+use Rattle.vital_nodes.specs.Items.{actual, listed_items}
 
 -- The items of a value in parentheses. Any other value has none.
 abbrev pub listed : Expr → List Item

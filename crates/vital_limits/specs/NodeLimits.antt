@@ -34,10 +34,10 @@ use Rattle.vital_nodes.specs.Layers.{ChoiceLayer, ExprLayer, StmtLayer}
 use Rattle.vital_nodes.specs.Nodes.{Node, Declaration, Interface, Concurrent, Sequential, Expression, Item, Name}
 use Rattle.vital_nodes.specs.Places.{place_of_expr, place_of_item}
 use Rattle.vital_timing.specs.TimeLiterals.{literal_time, unit_named}
-use Rattle.vital_walk.specs.Calls.{call}
-use Rattle.vital_walk.specs.Items.{formal}
-use Rattle.vital_walk.specs.Names.{identifier_of}
-use Rattle.vital_walk.specs.Objects.{is_constant}
+use Rattle.vital_nodes.specs.Calls.{call}
+use Rattle.vital_nodes.specs.Items.{formal}
+use Rattle.vital_nodes.specs.Names.{identifier_of}
+use Rattle.vital_nodes.specs.Objects.{is_constant}
 
 abbrev pub if_passed : Bool → CellLimit → Place → List PassedLimit
 if_passed is_passed limit place = if is_passed then record { place = place; limit = limit } ∷ [] else []

@@ -4,8 +4,7 @@ ghost use Rattle.std.specs.Prelude.{◌≡◌, length};
 ghost use Rattle.std.specs.Option.{option_copied};
 ghost use Rattle.vital_limits.specs.Counts as spec;
 
-use vital_nodes::{Expr, Item};
-use vital_walk::{actual, listed_items};
+use vital_nodes::{Expr, Item, actual, listed_items};
 
 /// The items of a value in parentheses.
 pub fn listed(value: &Expr) -> &[Item]

@@ -6,7 +6,7 @@ ghost use Rattle.std.specs.Option.{option_copied};
 ghost use Rattle.vital_limits.specs.NodeLimits as spec;
 ghost use Rattle.vital_limits.specs.declared.passed.CellLimit.TheVariants.{Delay};
 ghost use Rattle.vital_nodes.specs.Nodes.{Expression};
-ghost use Rattle.vital_walk.specs.Seen.{seen};
+ghost use Rattle.vital_nodes.specs.Seen.{seen};
 
 use crate::counts::{listed, listed_in, longest};
 use crate::passed::{CellLimit, PassedLimit};
@@ -14,9 +14,11 @@ use std::alloc::AllocError;
 use vital_base::Place;
 use vital_calls::call_of;
 use vital_names::{LibraryNames, Predeclared, Procedure, TypeName};
-use vital_nodes::{Choice, Conc, Decl, Expr, Item, Object, Physical, Reference, Stmt};
+use vital_nodes::{
+    Choice, Conc, Decl, Expr, HasPlace, Item, Node, Object, Physical, Reference, Stmt, call,
+    formal, identifier_of, is_constant,
+};
 use vital_timing::UnitOfTime;
-use vital_walk::{HasPlace, Node, call, formal, identifier_of, is_constant};
 
 /// A table has at most so many rows.
 const MOST_ROWS: usize = 128;

@@ -6,14 +6,13 @@ ghost use Rattle.std.specs.Option.{option_and_then, option_map};
 ghost use Rattle.vital_limits.specs.ConstantLimits as spec;
 ghost use Rattle.vital_limits.specs.NodeLimits.{is_too_long_node};
 ghost use Rattle.vital_names.specs.Meanings as meanings;
-ghost use Rattle.vital_walk.specs.Seen.{seen};
+ghost use Rattle.vital_nodes.specs.Seen.{seen};
 
 use crate::node_limits::{are_too_long, are_too_many, is_too_long_node, table_rows};
 use std::alloc::{AllocError, Global};
 use vital_names::{LibraryNames, Meaning};
-use vital_nodes::Object;
+use vital_nodes::{Node, Object, nodes_of_all, put_shared_parts};
 use vital_uses::identifier_of_node;
-use vital_walk::{Node, nodes_of_all, put_shared_parts};
 
 /// Which limits of a cell that names it a constant of a package passes.
 #[derive(Clone, Copy, PartialEq, Eq)]

@@ -5,7 +5,7 @@ use Rattle.std.specs.List.{find}
 use Rattle.std.specs.Option.{option_map, option_or}
 use Rattle.std.proofs.lemmas.List.{get_or_default}
 use Rattle.std.proofs.lemmas.List.Folds.{find-append}
-use Rattle.vital_walk.proofs.Lists.{map-take}
+use Rattle.vital_nodes.proofs.Lists.{map-take}
 
 -- one value more in a map, under a name that had none
 pub put-new : {V : Type 0} (at_name at_q new : Option V) (value : V) (same : Bool) → (same ≡ true → at_name ≡ at_q) → is_some at_name ≡ false → new ≡ cond same (Some value) at_q → new ≡ option_or at_q (cond same (Some value) None)

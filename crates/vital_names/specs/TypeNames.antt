@@ -5,7 +5,7 @@ use Rattle.vital_names.specs.declared.predeclared.TypeName.{TypeName}
 use Rattle.vital_names.specs.Kinds.{as_type}
 use Rattle.vital_names.specs.Words.{predeclared}
 use Rattle.vital_nodes.specs.declared.expr.Reference.{Reference}
-use Rattle.vital_walk.specs.Names.{last_identifier}
+use Rattle.vital_nodes.specs.Names.{last_identifier}
 
 -- The predeclared type that a name names by its last identifier, whatever else that identifier may mean.
 abbrev pub type_named : Reference → Option TypeName

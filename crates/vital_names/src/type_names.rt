@@ -5,8 +5,7 @@ ghost use Rattle.vital_names.specs.TypeNames as spec;
 
 use crate::library_names::LibraryNames;
 use crate::predeclared::TypeName;
-use vital_nodes::Reference;
-use vital_walk::last_identifier;
+use vital_nodes::{Reference, last_identifier};
 
 impl<'a> LibraryNames<'a> {
     /// The predeclared type that a name names by its last identifier. It is read as text: declarations and constants of packages

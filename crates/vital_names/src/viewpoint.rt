@@ -5,8 +5,7 @@ ghost use Rattle.vital_names.specs.Viewpoints.{is_last, viewpoints};
 
 use std::alloc::{AllocError, Global};
 use vital_base::Place;
-use vital_nodes::{Decl, Iface};
-use vital_walk::HasPlace;
+use vital_nodes::{Decl, HasPlace, Iface};
 
 /// What may be declared together with others, with which it shares its parts.
 pub trait DeclaredTogether: HasPlace {

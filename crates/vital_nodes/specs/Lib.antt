@@ -4,3 +4,10 @@ pub mod Nodes
 pub mod Places
 pub mod Counts
 pub mod Walk
+pub mod Seen
+pub mod Names
+pub mod Bounds
+pub mod Items
+pub mod Objects
+pub mod Calls
+pub mod Statements

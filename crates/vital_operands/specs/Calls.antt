@@ -14,8 +14,8 @@ use Rattle.vital_nodes.specs.declared.expr.Item.{Item}
 use Rattle.vital_nodes.specs.declared.expr.Reference.{Reference}
 use Rattle.vital_nodes.specs.declared.expr.Suffix.{Suffix}
 use Rattle.vital_nodes.specs.declared.identifier.Identifier.{Identifier}
-use Rattle.vital_walk.specs.Items.{actual}
-use Rattle.vital_walk.specs.Names.{items_of}
+use Rattle.vital_nodes.specs.Items.{actual}
+use Rattle.vital_nodes.specs.Names.{items_of}
 use Rattle.vital_operands.specs.declared.calls.TableActuals.{TableActuals as TableActuals'}
 use Rattle.vital_operands.specs.Positions.{Position, Standing, Operand, Constant, Word, Nothing, standing}
 

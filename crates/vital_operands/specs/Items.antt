@@ -3,7 +3,7 @@ use Rattle.std.specs.Prelude.{ℕ, Bool, true, false, ◌&&◌, ◌==◌, ◌-�
 use Rattle.std.specs.Borrow.{Bor}
 use Rattle.std.specs.List.{find, list_all}
 use Rattle.std.specs.Option.{option_and_then, option_map}
-use Rattle.vital_walk.specs.Items.{positional_value}
+use Rattle.vital_nodes.specs.Items.{positional_value}
 use Rattle.vital_logic.specs.declared.level.Level.{Level}
 use Rattle.vital_logic.specs.Levels.{byte_of, levels}
 use Rattle.vital_nodes.specs.declared.expr.Actual.TheOpen.{Item-F}

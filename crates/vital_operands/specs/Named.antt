@@ -4,8 +4,8 @@ use Rattle.std.specs.List.{find}
 use Rattle.std.specs.Option.{option_and_then, option_map, option_map_or}
 use Rattle.std.specs.Str.{bytes_eq}
 use Rattle.vital_declarations.specs.Constants.{columns_of}
-use Rattle.vital_walk.specs.Items.{listed_items}
-use Rattle.vital_walk.specs.Objects.{is_constant}
+use Rattle.vital_nodes.specs.Items.{listed_items}
+use Rattle.vital_nodes.specs.Objects.{is_constant}
 use Rattle.vital_declarations.specs.Numbers.{length_of, number, offset_of}
 use Rattle.vital_declarations.specs.Operands.{AliasTarget, OperandKind, Signal, Port, VariableOf, ConstantOf, Generic, AliasOf, NoOperand, VectorOf, is_level, is_of_levels, is_scalar, VariableType}
 use Rattle.vital_declarations.specs.Operands as target

@@ -9,8 +9,7 @@ ghost use Rattle.vital_operands.specs.Seen.{lent};
 use crate::position::{Position, Standing};
 use vital_calls::{ActualForm, form_of, formals_of_function, has_wrong_formals};
 use vital_names::Function;
-use vital_nodes::{Expr, Identifier, Item, Reference, Suffix};
-use vital_walk::actual;
+use vital_nodes::{Expr, Identifier, Item, Reference, Suffix, actual};
 
 /// The items in the one parenthesis that is all that stands behind an identifier.
 pub fn only_items(suffixes: &[Suffix]) -> Option<&[Item]>

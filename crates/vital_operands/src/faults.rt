@@ -6,14 +6,13 @@ ghost use Rattle.vital_nodes.specs.Nodes.{Expression};
 ghost use Rattle.vital_nodes.specs.Places.{place_of_expr};
 ghost use Rattle.vital_operands.specs.Faults as spec;
 ghost use Rattle.vital_operands.specs.Kept.{HasPlaces};
-ghost use Rattle.vital_walk.specs.Seen.{seen};
+ghost use Rattle.vital_nodes.specs.Seen.{seen};
 
 use std::alloc::{AllocError, Global};
 use std::collections::BTreeSet;
 use std::marker::Model;
 use vital_base::Place;
-use vital_nodes::Expr;
-use vital_walk::{HasPlace, Node, nodes_of};
+use vital_nodes::{Expr, HasPlace, Node, nodes_of};
 
 /// The places at which names and calls of a cell break clauses that speak of them. An expression with such a name in it breaks no
 /// clause that speaks of the forms of expressions. Contracts see them as the list of these places.

@@ -8,9 +8,8 @@ use sqlite_items::Items;
 use std::alloc::{AllocError, Global};
 use vital_base::Time;
 use vital_logic::Level;
-use vital_nodes::{Expr, Item, Physical};
+use vital_nodes::{Expr, Item, Physical, positional_value};
 use vital_timing::UnitOfTime;
-use vital_walk::positional_value;
 
 /// The value of an item by position that is the only item.
 pub fn only_value(items: &[Item]) -> Option<&Expr>

@@ -11,8 +11,7 @@ use crate::tree::ConstantName;
 use std::alloc::{AllocError, Global};
 use vital_declarations::{DeclaredType, TableType, columns_of, type_of};
 use vital_names::{Declared, LibraryNames, Meaning, TypeName};
-use vital_nodes::{Identifier, Object};
-use vital_walk::{is_constant, listed_items};
+use vital_nodes::{Identifier, Object, is_constant, listed_items};
 
 /// Whether a type is one of tables of a kind, without ranges.
 fn is_plain_table(kind: TableType, type_name: TypeName) -> bool

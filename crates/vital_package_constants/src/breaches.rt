@@ -6,7 +6,7 @@ ghost use Rattle.vital_expr.specs.Seen.{lent};
 ghost use Rattle.vital_limits.specs.ConstantLimits.{named_at as named_at'};
 ghost use Rattle.vital_package_constants.specs.Breaches as spec;
 ghost use Rattle.vital_package_constants.specs.Names as names;
-ghost use Rattle.vital_walk.specs.Seen.{seen};
+ghost use Rattle.vital_nodes.specs.Seen.{seen};
 
 use crate::names::{is_undeclared, is_wrong_call, nodes_of_constant};
 use crate::tables::has_wrong_table;
@@ -16,11 +16,10 @@ use vital_declaration_clauses::{Scope, is_good_constant};
 use vital_expr::Reader;
 use vital_limits::named_at;
 use vital_names::LibraryNames;
-use vital_nodes::Object;
+use vital_nodes::{Node, Object};
 use vital_operands::{Faults, Position};
 use vital_typed_declarations::{asked_of_object, read_value_if_given};
 use vital_uses::identifier_of_node;
-use vital_walk::Node;
 
 /// Which clauses a cell breaks at each name of a constant of a package.
 #[derive(Clone, Copy, PartialEq, Eq)]

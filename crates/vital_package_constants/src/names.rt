@@ -2,14 +2,13 @@
 
 ghost use Rattle.std.specs.Prelude.{◌≡◌, map, IfOk, OnOk};
 ghost use Rattle.vital_package_constants.specs.Names as spec;
-ghost use Rattle.vital_walk.specs.Seen.{seen};
+ghost use Rattle.vital_nodes.specs.Seen.{seen};
 
 use std::alloc::{AllocError, Global};
 use vital_call_clauses::is_wrong_for;
 use vital_names::{Function, LibraryNames};
-use vital_nodes::{Object, Reference};
+use vital_nodes::{Node, Object, Reference, nodes_of_all, put_if_there};
 use vital_uses::{identifier_of_node, put_asked_of_subtype};
-use vital_walk::{Node, nodes_of_all, put_if_there};
 
 /// The nodes of what a constant is declared with, in which it is asked what names mean.
 pub fn nodes_of_constant(alloc: Global, object: &Object) -> Result<Vec<Node<'_>>, AllocError>

@@ -4,17 +4,16 @@ ghost use Rattle.std.specs.Prelude.{◌≡◌, ◌||◌, map, IfOk};
 ghost use Rattle.vital_declaration_clauses.specs.Scopes as scopes;
 ghost use Rattle.vital_expr.specs.Seen.{lent};
 ghost use Rattle.vital_package_constants.specs.Tables as spec;
-ghost use Rattle.vital_walk.specs.Seen.{seen};
+ghost use Rattle.vital_nodes.specs.Seen.{seen};
 
 use std::alloc::{AllocError, Global};
 use vital_declaration_clauses::Scope;
 use vital_expr::Reader;
 use vital_limits::is_long_table;
 use vital_names::LibraryNames;
-use vital_nodes::Object;
+use vital_nodes::{Node, Object};
 use vital_tables::{Table, table_of};
 use vital_typed_statements::{TableUse, UsedTable, truth_use_at};
-use vital_walk::Node;
 
 /// Whether a call makes a table wrong. A value that is no table of symbols breaks the clause in any case.
 pub fn is_wrong_in(

@@ -20,7 +20,7 @@ use Rattle.vital_processes.specs.Kept.{AreKept}
 use Rattle.vital_processes.specs.Places.{IsPlace, IsThere, place_of}
 use Rattle.vital_processes.specs.Processes.{ProcessStates, after, done_by, first_variables, with_slots}
 use Rattle.vital_signals.specs.declared.signal.Signal.{Signal}
-use Rattle.vital_sound.specs.Sound.{bit_count}
+use Rattle.vital_typed_cells.specs.Sound.{bit_count}
 
 -- ---- the cells of a sound network
 

@@ -1,3 +1,8 @@
+pub mod ListenerLemmas
+pub mod RisingNumbers
+pub mod TriggeredLemmas
+pub mod SensitivityLemmas
+mod ListenerRows
 mod Rows
 pub mod ListLemmas
 pub mod InputLemmas

@@ -27,7 +27,7 @@ use Rattle.vital_processes.specs.Places.{IsThere}
 use Rattle.vital_processes.specs.Processes.{done_by, input, slots_of, with_slots}
 use Rattle.vital_processes.specs.Programs.{ProgramState, seen}
 use Rattle.vital_signals.specs.declared.signal.Signal.{Signal}
-use Rattle.vital_sound.specs.Sound.{bit_count}
+use Rattle.vital_typed_cells.specs.Sound.{bit_count}
 use Rattle.vital_steps.specs.Named.{by_name, named}
 
 -- ---- a program that stands for a cell

@@ -16,7 +16,7 @@ use Rattle.vital_processes.specs.declared.instances.Instances.{Instances}
 use Rattle.vital_processes.specs.Processes.{ProcessStates, done_by, first_variables, with_slots}
 use Rattle.vital_processes.specs.Programs.{ProgramState}
 use Rattle.vital_signals.specs.declared.signal.Signal.{Signal}
-use Rattle.vital_sound.specs.Sound.{bit_count}
+use Rattle.vital_typed_cells.specs.Sound.{bit_count}
 use Rattle.vital_steps.specs.Named.{named}
 
 -- ---- what variables hold

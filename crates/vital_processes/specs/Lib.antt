@@ -1,3 +1,6 @@
+pub mod Triggered
+pub mod Sensitivities
+pub mod Lists
 pub mod Processes
 pub mod Programs
 pub mod Places

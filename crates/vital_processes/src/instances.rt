@@ -7,7 +7,7 @@ ghost use Rattle.vital_network.specs.Networks.{NetProcess, lent_cell};
 ghost use Rattle.vital_processes.specs.Instances as spec;
 ghost use Rattle.vital_processes.specs.Places.{IsPlace, IsThere, place_of};
 ghost use Rattle.vital_processes.specs.Processes.{first_variables};
-ghost use Rattle.vital_sound.specs.Sound.{bit_count};
+ghost use Rattle.vital_typed_cells.specs.Sound.{bit_count};
 
 use crate::places::Place;
 use crate::program::CellProgram;

@@ -5,7 +5,7 @@ ghost use Rattle.vital_machine.specs.Fits.{EffectIsOfCell, EndsInTime};
 ghost use Rattle.vital_network.specs.DesignNetworks.{driver_count};
 ghost use Rattle.vital_network.specs.Networks.{processes};
 ghost use Rattle.vital_processes.specs.Processes.{after, first_variables};
-ghost use Rattle.vital_sound.specs.Sound.{bit_count};
+ghost use Rattle.vital_typed_cells.specs.Sound.{bit_count};
 
 use crate::instances::Instances;
 use crate::places::{Place, all_places};

@@ -22,8 +22,8 @@ use std::test::Fail;
 use vital_base::Place;
 use vital_lex::TextFault;
 use vital_ll::Rules;
+use vital_nodes::nodes;
 use vital_vhdl::{Entity, Identifier, Mode, Role, Unit, UnitError, Units, read_units, vhdl_rules};
-use vital_walk::nodes;
 
 /// A rule of the grammar, a text, and the line and the column of its first wrong token, which stands in that rule.
 type Refused = (&'static str, &'static [u8], (u32, u32));

@@ -19,7 +19,7 @@ use Rattle.vital_statements.specs.Sites.{site_at}
 use Rattle.vital_typed_statements.specs.declared.statement.TypedStatement.{TypedStatement}
 use Rattle.vital_typed_statements.specs.declared.statement.TypedStatement.TheVariants as statement
 use Rattle.vital_typed_statements.specs.Statements.{assignment, context}
-use Rattle.vital_walk.specs.Statements.{all_sequential}
+use Rattle.vital_nodes.specs.Statements.{all_sequential}
 use Rattle.vital_sections.specs.declared.path_delay.PathDelay.{PathDelay}
 use Rattle.vital_sections.specs.declared.sections.FunctionalStatement.{FunctionalStatement}
 use Rattle.vital_sections.specs.declared.sections.FunctionalStatement.TheVariants as functional

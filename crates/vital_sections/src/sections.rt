@@ -14,10 +14,9 @@ use sqlite_items::Items;
 use std::alloc::{AllocError, Global};
 use vital_actuals::Target;
 use vital_names::{CellNames, Procedure, ProcessNames};
-use vital_nodes::Stmt;
+use vital_nodes::{Stmt, all_sequential};
 use vital_operands::Faults;
 use vital_typed_statements::{TypedStatement, Value, read_statement};
-use vital_walk::all_sequential;
 
 /// A statement of the functionality of a process.
 #[derive(Drop)]

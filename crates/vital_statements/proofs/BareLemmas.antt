@@ -9,8 +9,8 @@ use Rattle.vital_nodes.specs.declared.identifier.Identifier.{Identifier}
 use Rattle.vital_nodes.specs.Layers.{ChoiceLayer, ExprLayer, ItemLayer}
 use Rattle.vital_nodes.specs.Nodes.{Node, Expression, Item, items, parts_in_choice, parts_in_expr, parts_in_item, parts_of}
 use Rattle.vital_nodes.specs.Walk.{folded, nodes_of, nodes_of_all}
-use Rattle.vital_walk.specs.Items.{positional_in, positional_value, value_in_choice}
-use Rattle.vital_walk.specs.Names.{identifier_of}
+use Rattle.vital_nodes.specs.Items.{positional_in, positional_value, value_in_choice}
+use Rattle.vital_nodes.specs.Names.{identifier_of}
 use Rattle.vital_statements.specs.Parentheses.{bare_identifier, bare_or, bare_step, first_of, inside, inside_in, only_by_position}
 
 -- ---- the parts of parentheses

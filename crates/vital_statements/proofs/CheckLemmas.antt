@@ -10,7 +10,7 @@ use Rattle.vital_nodes.specs.declared.stmt.Stmt.{Stmt}
 use Rattle.vital_nodes.specs.Places.{place_of_stmt}
 use Rattle.vital_names.specs.Sites.{Cell}
 use Rattle.vital_statements.specs.Clauses.{is_check_call, others_than_checks}
-use Rattle.vital_walk.proofs.Lists.{flat_map-one}
+use Rattle.vital_nodes.proofs.Lists.{flat_map-one}
 
 pub others-append : (cell : Cell) (p : Process) (xs ys : List Stmt) → others_than_checks cell p (xs ++ ys) ≡ others_than_checks cell p xs ++ others_than_checks cell p ys
 others-append cell p xs ys =

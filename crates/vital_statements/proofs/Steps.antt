@@ -6,7 +6,7 @@ use Rattle.std.specs.Option.{option_copied, option_map, option_map_or, option_to
 use Rattle.std.specs.List.{filter_map, list_any}
 use Rattle.std.proofs.lemmas.List.Folds.{list_any-append}
 use Rattle.vital_base.specs.declared.place.Place.{Place}
-use Rattle.vital_walk.proofs.Lists.{any-one, filter_map-one, map-take, only-one, take-one}
+use Rattle.vital_nodes.proofs.Lists.{any-one, filter_map-one, map-take, only-one, take-one}
 use Rattle.vital_statements.specs.Lists.{each, each_after, place_if}
 
 -- one more of which each is judged with those before it

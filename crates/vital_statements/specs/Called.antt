@@ -7,7 +7,7 @@ use Rattle.vital_nodes.specs.declared.stmt.Stmt.{Stmt}
 use Rattle.vital_nodes.specs.declared.stmt.Stmt.TheOpen.{Stmt-F}
 use Rattle.vital_nodes.specs.declared.stmt.Stmt.TheViews.{out-Stmt}
 use Rattle.vital_nodes.specs.Layers.{StmtLayer}
-use Rattle.vital_walk.specs.Calls.{call}
+use Rattle.vital_nodes.specs.Calls.{call}
 use Rattle.vital_names.specs.declared.predeclared.Procedure.{Procedure}
 use Rattle.vital_names.specs.Kinds.{procedure_meant}
 use Rattle.vital_names.specs.Meanings.{meaning}

@@ -23,8 +23,8 @@ use Rattle.vital_nodes.specs.declared.stmt.Stmt.TheViews.{out-If}
 use Rattle.vital_nodes.specs.declared.unit.Arch.{Arch}
 use Rattle.vital_nodes.specs.declared.unit.Entity.{Entity}
 use Rattle.vital_nodes.specs.Places.{place_of_conc, place_of_name, place_of_stmt}
-use Rattle.vital_walk.specs.Names.{identifier_of, plain_identifier}
-use Rattle.vital_walk.specs.Statements.{all_concurrent}
+use Rattle.vital_nodes.specs.Names.{identifier_of, plain_identifier}
+use Rattle.vital_nodes.specs.Statements.{all_concurrent}
 use Rattle.vital_names.specs.declared.predeclared.Procedure.{Procedure}
 use Rattle.vital_names.specs.declared.predeclared.Procedure.TheVariants as procedure_is
 use Rattle.vital_names.specs.Sites.{Cell}

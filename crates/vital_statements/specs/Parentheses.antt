@@ -8,8 +8,8 @@ use Rattle.vital_nodes.specs.declared.identifier.Identifier.{Identifier}
 use Rattle.vital_nodes.specs.Layers.{ExprLayer}
 use Rattle.vital_nodes.specs.Nodes.{Node, Declaration, Interface, Concurrent, Sequential, Expression, Item, Name}
 use Rattle.vital_nodes.specs.Walk.{folded}
-use Rattle.vital_walk.specs.Items.{positional_value}
-use Rattle.vital_walk.specs.Names.{identifier_of}
+use Rattle.vital_nodes.specs.Items.{positional_value}
+use Rattle.vital_nodes.specs.Names.{identifier_of}
 
 -- The only item, if it is an expression by position.
 abbrev pub only_by_position : List Item' → Option Expr

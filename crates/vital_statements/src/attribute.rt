@@ -9,8 +9,9 @@ use crate::places::put_if;
 use std::alloc::{AllocError, Global};
 use vital_base::Place;
 use vital_names::CellNames;
-use vital_nodes::{Arch, Decl, Designator, Entity, EntityClass, Expr, Specification};
-use vital_walk::identifier_of;
+use vital_nodes::{
+    Arch, Decl, Designator, Entity, EntityClass, Expr, Specification, identifier_of,
+};
 
 /// The places where L1.1 is broken: the identifier of an entity without architecture, or that of the architecture if
 /// `attribute VITAL_LEVEL1 of A : architecture is TRUE` does not stand among its declarations.

@@ -8,8 +8,7 @@ ghost use Rattle.vital_statements.specs.Called as spec;
 use crate::site::site_at;
 use vital_calls::{Call, call_of};
 use vital_names::{CellNames, Procedure, ProcessNames};
-use vital_nodes::{Conc, Stmt};
-use vital_walk::call;
+use vital_nodes::{Conc, Stmt, call};
 
 /// The call that a concurrent statement is.
 pub fn call_of_conc(conc: &Conc) -> Option<Call<'_>>

@@ -4,8 +4,9 @@ ghost use Rattle.std.specs.Prelude.{◌≡◌};
 ghost use Rattle.std.specs.Option.{option_copied};
 ghost use Rattle.vital_statements.specs.Parentheses as spec;
 
-use vital_nodes::{Expr, Identifier, Item, folded_upwards, walked_in_preorder};
-use vital_walk::{identifier_of, positional_value};
+use vital_nodes::{
+    Expr, Identifier, Item, folded_upwards, identifier_of, positional_value, walked_in_preorder,
+};
 
 /// What stands inside of parentheses, if that is one expression by position.
 fn inside(expr: &Expr) -> Option<&Expr>

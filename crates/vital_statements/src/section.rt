@@ -13,8 +13,7 @@ use std::alloc::{AllocError, Global};
 use vital_base::Place;
 use vital_calls::call_of;
 use vital_names::{CellNames, Procedure, ProcessNames};
-use vital_nodes::{Conc, Process, Stmt};
-use vital_walk::{HasPlace, all_concurrent};
+use vital_nodes::{Conc, HasPlace, Process, Stmt, all_concurrent};
 
 /// A section of a process (IEEE 1076.4). They stand in this order.
 #[derive(Clone, Copy, PartialEq, Eq)]

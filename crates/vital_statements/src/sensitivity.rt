@@ -10,8 +10,7 @@ use crate::statement::{as_process, statements_of};
 use std::alloc::{AllocError, Global};
 use vital_base::Place;
 use vital_names::CellNames;
-use vital_nodes::{Conc, Reference};
-use vital_walk::{HasPlace, all_concurrent, plain_identifier};
+use vital_nodes::{Conc, HasPlace, Reference, all_concurrent, plain_identifier};
 
 /// The places where L1.7 is broken: each process of an architecture without a sensitivity list, and each element of a list that is
 /// no plain name of an internal signal or of an in or inout port.

@@ -9,8 +9,7 @@ use crate::statement::{as_block, as_process, statements_of};
 use std::alloc::{AllocError, Global};
 use vital_base::Place;
 use vital_names::CellNames;
-use vital_nodes::Conc;
-use vital_walk::HasPlace;
+use vital_nodes::{Conc, HasPlace};
 
 /// The places where L1.5 is broken: each statement of the architecture that is neither a process nor a block, each block after the
 /// first, and a block with another label than WireDelay.

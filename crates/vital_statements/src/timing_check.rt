@@ -14,8 +14,7 @@ use crate::statement::{as_if, as_process, statements_of};
 use std::alloc::{AllocError, Global};
 use vital_base::Place;
 use vital_names::{CellNames, Procedure, ProcessNames};
-use vital_nodes::{Branch, Conc, Expr, If, Process, Stmt};
-use vital_walk::{HasPlace, all_concurrent};
+use vital_nodes::{Branch, Conc, Expr, HasPlace, If, Process, Stmt, all_concurrent};
 
 /// The places where L1.11 is broken: each `if` among the statements of a process after the first, or with another form than
 /// `if TimingChecksOn` with no other branch, and each other statement in an `if` than a call of a check.

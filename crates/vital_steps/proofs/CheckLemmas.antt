@@ -35,10 +35,10 @@ use Rattle.vital_sections.specs.declared.timing_check.ReferenceParts.{ReferenceP
 use Rattle.vital_sections.specs.declared.timing_check.SetupHoldCheck.{SetupHoldCheck}
 use Rattle.vital_sections.specs.declared.timing_check.TimingCheck.{TimingCheck}
 use Rattle.vital_sections.specs.declared.timing_check.TimingCheck.TheVariants as check
-use Rattle.vital_sound.specs.KeptStates.{kept_by}
-use Rattle.vital_sound.specs.Named.{is_period_data, is_timing_data, is_x01, variable_is}
-use Rattle.vital_sound.specs.SoundStatements.{are_sound_parts, is_sound_check, is_sound_reference}
-use Rattle.vital_sound.specs.Trees.{is_sound_boolean, is_sound_time}
+use Rattle.vital_typed_cells.specs.KeptStates.{kept_by}
+use Rattle.vital_typed_cells.specs.Named.{is_period_data, is_timing_data, is_x01, variable_is}
+use Rattle.vital_typed_cells.specs.SoundStatements.{are_sound_parts, is_sound_check, is_sound_reference}
+use Rattle.vital_typed_cells.specs.Trees.{is_sound_boolean, is_sound_time}
 use Rattle.vital_steps.specs.Formed.{IsFormed}
 use Rattle.vital_steps.specs.Kinds.{AreOfKinds, is_of_check, is_of_kind, keeps}
 use Rattle.vital_steps.specs.Named.{by_name, held_in, named}

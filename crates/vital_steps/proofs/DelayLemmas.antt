@@ -29,10 +29,10 @@ use Rattle.vital_path_delay.specs.declared.send.GlitchOut.{GlitchOut}
 use Rattle.vital_path_delay.specs.Calls.{path_delay}
 use Rattle.vital_path_delay.specs.Kept as glitches
 use Rattle.vital_sections.specs.declared.path_delay.PathDelay.{PathDelay}
-use Rattle.vital_sound.specs.Named.{is_glitch_data, variable_is}
-use Rattle.vital_sound.specs.SoundActuals.{is_sound_path}
-use Rattle.vital_sound.specs.SoundStatements.{is_sound_path_delay}
-use Rattle.vital_sound.specs.Trees.{is_sound_boolean, is_sound_delay, is_sound_level}
+use Rattle.vital_typed_cells.specs.Named.{is_glitch_data, variable_is}
+use Rattle.vital_typed_cells.specs.SoundActuals.{is_sound_path}
+use Rattle.vital_typed_cells.specs.SoundStatements.{is_sound_path_delay}
+use Rattle.vital_typed_cells.specs.Trees.{is_sound_boolean, is_sound_delay, is_sound_level}
 use Rattle.vital_steps.specs.Formed.{IsFormed}
 use Rattle.vital_steps.specs.Kinds.{AreOfKinds, is_of_kind}
 use Rattle.vital_steps.specs.Named.{by_name, named}

@@ -18,9 +18,9 @@ use Rattle.vital_path_delay.specs.Kept.{HasSmallTimes}
 use Rattle.vital_sections.specs.declared.timing_check.RecoveryRemovalCheck.{RecoveryRemovalCheck}
 use Rattle.vital_sections.specs.declared.timing_check.TimingCheck.{TimingCheck}
 use Rattle.vital_sections.specs.declared.timing_check.TimingCheck.TheVariants as check
-use Rattle.vital_sound.specs.Named.{is_timing_data, variable_is}
-use Rattle.vital_sound.specs.SoundStatements.{are_sound_parts, is_sound_check, is_sound_reference}
-use Rattle.vital_sound.specs.Trees.{is_sound_boolean, is_sound_time}
+use Rattle.vital_typed_cells.specs.Named.{is_timing_data, variable_is}
+use Rattle.vital_typed_cells.specs.SoundStatements.{are_sound_parts, is_sound_check, is_sound_reference}
+use Rattle.vital_typed_cells.specs.Trees.{is_sound_boolean, is_sound_time}
 use Rattle.vital_steps.specs.Kinds.{AreOfKinds, is_of_kind}
 use Rattle.vital_steps.specs.Named.{held_in, named}
 use Rattle.vital_steps.specs.Scopes.{Scope, names_at, names_of_variables}

@@ -17,8 +17,8 @@ use Rattle.vital_objects.specs.declared.variable.VariableKind.{VariableKind}
 use Rattle.vital_objects.specs.declared.variable.VariableKind.TheVariants as kind
 use Rattle.vital_sections.specs.declared.timing_check.TimingCheck.{TimingCheck}
 use Rattle.vital_sections.specs.declared.timing_check.TimingCheck.TheVariants as check
-use Rattle.vital_sound.specs.KeptStates.{kept_by}
-use Rattle.vital_sound.specs.Named.{is_vector}
+use Rattle.vital_typed_cells.specs.KeptStates.{kept_by}
+use Rattle.vital_typed_cells.specs.Named.{is_vector}
 use Rattle.vital_steps.specs.Kinds.{AreOfKinds, is_of_check, is_of_kind, keeps}
 use Rattle.vital_steps.specs.Scopes.{Scope, names_of_variables}
 use Rattle.vital_steps.specs.StandsFor.{Fits}

@@ -36,11 +36,11 @@ use Rattle.vital_operands.specs.declared.tree.VectorExpr.{VectorExpr}
 use Rattle.vital_sections.specs.declared.sections.FunctionalStatement.{FunctionalStatement}
 use Rattle.vital_sections.specs.declared.sections.FunctionalStatement.TheVariants as statement
 use Rattle.vital_sections.specs.declared.state_table.StateTable.{StateTable}
-use Rattle.vital_sound.specs.Named.{has_element, is_scalar, is_vector}
-use Rattle.vital_sound.specs.SoundActuals.{is_sound_target}
-use Rattle.vital_sound.specs.SoundAssignments.{is_sound_value}
-use Rattle.vital_sound.specs.SoundSections.{is_sound_functional}
-use Rattle.vital_sound.specs.Trees.{vector_worth}
+use Rattle.vital_typed_cells.specs.Named.{has_element, is_scalar, is_vector}
+use Rattle.vital_typed_cells.specs.SoundActuals.{is_sound_target}
+use Rattle.vital_typed_cells.specs.SoundAssignments.{is_sound_value}
+use Rattle.vital_typed_cells.specs.SoundSections.{is_sound_functional}
+use Rattle.vital_typed_cells.specs.Trees.{vector_worth}
 use Rattle.vital_steps.specs.Formed.{IsFormed}
 use Rattle.vital_steps.specs.Kinds.{AreOfKinds, IsShort, is_of_kind}
 use Rattle.vital_steps.specs.Named.{held_in, named}

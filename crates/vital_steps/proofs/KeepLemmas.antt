@@ -15,10 +15,10 @@ use Rattle.vital_sections.specs.declared.timing_check.PeriodPulseCheck.{PeriodPu
 use Rattle.vital_sections.specs.declared.timing_check.SetupHoldCheck.{SetupHoldCheck}
 use Rattle.vital_sections.specs.declared.timing_check.TimingCheck.{TimingCheck}
 use Rattle.vital_sections.specs.declared.timing_check.TimingCheck.TheVariants as check
-use Rattle.vital_sound.specs.KeptStates.{kept_by}
-use Rattle.vital_sound.specs.Named.{is_period_data, is_timing_data, variable_is}
-use Rattle.vital_sound.specs.SoundStatements.{are_sound_parts, is_sound_check, is_sound_reference}
-use Rattle.vital_sound.specs.Trees.{is_sound_boolean, is_sound_time}
+use Rattle.vital_typed_cells.specs.KeptStates.{kept_by}
+use Rattle.vital_typed_cells.specs.Named.{is_period_data, is_timing_data, variable_is}
+use Rattle.vital_typed_cells.specs.SoundStatements.{are_sound_parts, is_sound_check, is_sound_reference}
+use Rattle.vital_typed_cells.specs.Trees.{is_sound_boolean, is_sound_time}
 use Rattle.vital_steps.specs.Kinds.{is_of_check, keeps}
 use Rattle.vital_steps.specs.Scopes.{Scope, names_of_variables}
 use Rattle.vital_steps.specs.Sound.{has_bit, statement_tests, tests}

@@ -7,7 +7,7 @@ use Rattle.std.proofs.lemmas.Bool.{false≢true}
 use Rattle.vital_machine.specs.declared.slot.Slot.{Slot}
 use Rattle.vital_objects.specs.declared.variable.Variable.{Variable}
 use Rattle.vital_objects.specs.declared.variable.VariableKind.{VariableKind}
-use Rattle.vital_sound.specs.Named.{variable_is}
+use Rattle.vital_typed_cells.specs.Named.{variable_is}
 use Rattle.vital_steps.specs.Kinds.{AreOfKinds, IsOfKind, is_of_kind}
 use Rattle.vital_steps.proofs.SoundLemmas.{first-holds, second-holds}
 use Rattle.vital_steps.proofs.ZipLemmas.{all-at, equal-names, first-at, map-at, none≢some, some-same}

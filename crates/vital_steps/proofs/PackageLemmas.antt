@@ -14,9 +14,9 @@ use Rattle.vital_operands.specs.declared.tree.ConstantName.{ConstantName}
 use Rattle.vital_operands.specs.declared.tree.ConstantName.TheVariants as constant
 use Rattle.vital_operands.specs.declared.tree.Control.{Control}
 use Rattle.vital_operands.specs.declared.tree.Control.TheVariants as control
-use Rattle.vital_sound.specs.Fitting.{are_parted}
-use Rattle.vital_sound.specs.Named.{has_package_rows}
-use Rattle.vital_sound.specs.SoundDeclarations.{AreSoundPackages, is_sound_package, names_in_packages}
+use Rattle.vital_typed_cells.specs.Fitting.{are_parted}
+use Rattle.vital_typed_cells.specs.Named.{has_package_rows}
+use Rattle.vital_typed_cells.specs.SoundDeclarations.{AreSoundPackages, is_sound_package, names_in_packages}
 use Rattle.vital_steps.specs.declared.worth.Worth.{Worth as Worth'}
 use Rattle.vital_steps.specs.Scopes.{Scope, named_delays, named_worths, names_at, package_worths, truth_of}
 use Rattle.vital_steps.specs.Sound.{has_table, tests}

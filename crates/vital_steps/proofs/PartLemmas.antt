@@ -26,8 +26,8 @@ use Rattle.vital_operands.specs.declared.tree.LevelExpr.TheVariants as level'
 use Rattle.vital_operands.specs.declared.tree.TruthTableCall.{TruthTableCall, out-TruthTableCall}
 use Rattle.vital_operands.specs.declared.tree.VectorExpr.{VectorExpr}
 use Rattle.vital_operands.specs.declared.tree.VectorExpr.TheVariants as vector'
-use Rattle.vital_sound.specs.ExprScopes.{Scope as Tests}
-use Rattle.vital_sound.specs.Trees.{is_sound_boolean, is_sound_level, vector_worth}
+use Rattle.vital_typed_cells.specs.ExprScopes.{Scope as Tests}
+use Rattle.vital_typed_cells.specs.Trees.{is_sound_boolean, is_sound_level, vector_worth}
 use Rattle.vital_steps.specs.Scopes.{Scope, names_of}
 use Rattle.vital_steps.specs.Sound.{rows_named, tests}
 use Rattle.vital_steps.specs.StandsFor.{AreLevels, AreTruths, IsCall, IsLevel, IsOther, IsSame, IsTruth, IsVector}

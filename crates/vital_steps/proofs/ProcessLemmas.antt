@@ -11,8 +11,8 @@ use Rattle.vital_machine.specs.Fits.{kinds_of}
 use Rattle.vital_machine.specs.Machine as M
 use Rattle.vital_sections.specs.declared.path_delay.PathDelay.{PathDelay}
 use Rattle.vital_sections.specs.declared.sections.Sections.{Sections}
-use Rattle.vital_sound.specs.SoundSections.{are_sound_sections, is_sound_functional}
-use Rattle.vital_sound.specs.SoundStatements.{is_sound_check, is_sound_path_delay}
+use Rattle.vital_typed_cells.specs.SoundSections.{are_sound_sections, is_sound_functional}
+use Rattle.vital_typed_cells.specs.SoundStatements.{is_sound_check, is_sound_path_delay}
 use Rattle.vital_steps.specs.Formed.{IsFormed}
 use Rattle.vital_steps.specs.Kinds.{AreOfKinds, keeps}
 use Rattle.vital_steps.specs.Named.{by_name, named}

@@ -24,8 +24,8 @@ use Rattle.vital_machine.proofs.FitLemmas.{fitted-whole}
 use Rattle.vital_objects.specs.declared.variable.VariableKind.{VariableKind}
 use Rattle.vital_objects.specs.declared.variable.VariableKind.TheVariants as kind
 use Rattle.vital_primitives.specs.Operators.{first}
-use Rattle.vital_sound.specs.Named.{has_element, is_scalar, is_vector}
-use Rattle.vital_sound.specs.SoundActuals.{is_sound_target}
+use Rattle.vital_typed_cells.specs.Named.{has_element, is_scalar, is_vector}
+use Rattle.vital_typed_cells.specs.SoundActuals.{is_sound_target}
 use Rattle.vital_steps.specs.Kinds.{AreOfKinds, is_of_kind}
 use Rattle.vital_steps.specs.Named.{held_in, named}
 use Rattle.vital_steps.specs.Scopes.{Scope, names_of_variables, variable_of}

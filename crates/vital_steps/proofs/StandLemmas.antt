@@ -39,7 +39,7 @@ use Rattle.vital_operands.specs.declared.tree.VectorExpr.{VectorExpr}
 use Rattle.vital_operands.specs.declared.tree.VectorExpr.TheVariants as vector
 use Rattle.vital_primitives.specs.Operators.{converted, first, negated, operated, same_level, same_truth, truth2}
 use Rattle.vital_primitives.specs.Primitives.{primitive}
-use Rattle.vital_sound.specs.Trees.{vector_worth}
+use Rattle.vital_typed_cells.specs.Trees.{vector_worth}
 use Rattle.vital_steps.specs.Scopes.{Scope, names_of, names_of_variables}
 use Rattle.vital_steps.specs.Sound.{rows_named, tests}
 use Rattle.vital_steps.specs.StandsFor.{AreLevels, AreTruths, Fits, IsCall, IsLevel, IsOther, IsSame, IsTruth, IsVector}

@@ -6,10 +6,10 @@ use Rattle.vital_actuals.specs.declared.actual.Path.{Path}
 use Rattle.vital_sections.specs.declared.path_delay.PathDelay.{PathDelay}
 use Rattle.vital_sections.specs.declared.timing_check.RecoveryRemovalCheck.{RecoveryRemovalCheck}
 use Rattle.vital_sections.specs.declared.timing_check.TimingCheck.TheVariants as check
-use Rattle.vital_sound.specs.Named.{is_glitch_data, variable_is}
-use Rattle.vital_sound.specs.SoundActuals.{is_sound_path}
-use Rattle.vital_sound.specs.SoundStatements.{are_sound_parts, is_sound_check, is_sound_path_delay, is_sound_reference}
-use Rattle.vital_sound.specs.Trees.{is_sound_boolean, is_sound_delay, is_sound_level, is_sound_time}
+use Rattle.vital_typed_cells.specs.Named.{is_glitch_data, variable_is}
+use Rattle.vital_typed_cells.specs.SoundActuals.{is_sound_path}
+use Rattle.vital_typed_cells.specs.SoundStatements.{are_sound_parts, is_sound_check, is_sound_path_delay, is_sound_reference}
+use Rattle.vital_typed_cells.specs.Trees.{is_sound_boolean, is_sound_delay, is_sound_level, is_sound_time}
 use Rattle.vital_steps.specs.Scopes.{Scope}
 use Rattle.vital_steps.specs.Sound.{has_bit, statement_tests, tests}
 use Rattle.vital_steps.proofs.SoundLemmas.{first-holds, second-holds}

@@ -12,8 +12,8 @@ use Rattle.vital_logic.specs.declared.level.Level.TheVariants.{U}
 use Rattle.vital_objects.specs.declared.port.Port.{Port}
 use Rattle.vital_objects.specs.declared.signal.Signal.{Signal}
 use Rattle.vital_operands.specs.Named.{is_read_mode}
-use Rattle.vital_sound.specs.Fitting.{are_parted}
-use Rattle.vital_sound.specs.Named.{is_input_port, is_internal}
+use Rattle.vital_typed_cells.specs.Fitting.{are_parted}
+use Rattle.vital_typed_cells.specs.Named.{is_input_port, is_internal}
 use Rattle.vital_steps.proofs.KindLemmas.{either}
 use Rattle.vital_table.specs.Tables.{is_table}
 use Rattle.vital_typed_cells.specs.Bits.{names_of, number_of}

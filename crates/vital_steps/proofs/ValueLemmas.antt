@@ -18,10 +18,10 @@ use Rattle.vital_objects.specs.declared.constant.ConstantValue.TheVariants as co
 use Rattle.vital_operands.specs.declared.tree.BooleanExpr.{BooleanExpr}
 use Rattle.vital_operands.specs.declared.tree.LevelExpr.{LevelExpr}
 use Rattle.vital_operands.specs.declared.tree.VectorExpr.{VectorExpr}
-use Rattle.vital_sound.specs.ExprScopes.{Scope as Tests}
-use Rattle.vital_sound.specs.Named.{is_vector, variable_is}
-use Rattle.vital_sound.specs.SoundDeclarations.{is_sound_constant}
-use Rattle.vital_sound.specs.Trees.{is_sound_boolean, is_sound_level}
+use Rattle.vital_typed_cells.specs.ExprScopes.{Scope as Tests}
+use Rattle.vital_typed_cells.specs.Named.{is_vector, variable_is}
+use Rattle.vital_typed_cells.specs.SoundDeclarations.{is_sound_constant}
+use Rattle.vital_typed_cells.specs.Trees.{is_sound_boolean, is_sound_level}
 use Rattle.vital_steps.specs.declared.worth.Worth.{Worth}
 use Rattle.vital_steps.specs.Named.{held_in}
 use Rattle.vital_steps.specs.Scopes.{Scope, named_worths, names_at, names_of, names_of_variables}

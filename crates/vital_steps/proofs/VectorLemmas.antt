@@ -7,8 +7,8 @@ use Rattle.vital_machine.specs.Trees as N
 use Rattle.vital_machine.specs.TruthTables.{fitted}
 use Rattle.vital_machine.proofs.FitLemmas.{fitted-whole}
 use Rattle.vital_operands.specs.declared.tree.VectorExpr.{VectorExpr}
-use Rattle.vital_sound.specs.Named.{is_vector, variable_is}
-use Rattle.vital_sound.specs.Trees.{is_sound_vector, vector_worth}
+use Rattle.vital_typed_cells.specs.Named.{is_vector, variable_is}
+use Rattle.vital_typed_cells.specs.Trees.{is_sound_vector, vector_worth}
 use Rattle.vital_steps.specs.Scopes.{Scope, names_at, names_of}
 use Rattle.vital_steps.specs.Sound.{tests}
 use Rattle.vital_steps.specs.StandsFor.{Fits, IsVector}

@@ -27,9 +27,9 @@ use Rattle.vital_operands.specs.declared.tree.TimeExpr.{TimeExpr}
 use Rattle.vital_operands.specs.declared.tree.TimeExpr.TheVariants as times
 use Rattle.vital_operands.specs.declared.tree.TruthTableCall.{TruthTableCall, out-TruthTableCall, roll-TruthTableCall}
 use Rattle.vital_operands.specs.declared.tree.VectorExpr.{VectorExpr}
-use Rattle.vital_sound.specs.ExprScopes.{Scope}
-use Rattle.vital_sound.specs.SoundDeclarations.{is_sound_constant, is_sound_kind, is_sound_package}
-use Rattle.vital_sound.specs.Trees.{boolean_step, is_sound_boolean, is_sound_delay, is_sound_level, is_sound_time, is_sound_vector, level_step, vector_step, vector_worth}
+use Rattle.vital_typed_cells.specs.ExprScopes.{Scope}
+use Rattle.vital_typed_cells.specs.SoundDeclarations.{is_sound_constant, is_sound_kind, is_sound_package}
+use Rattle.vital_typed_cells.specs.Trees.{boolean_step, is_sound_boolean, is_sound_delay, is_sound_level, is_sound_time, is_sound_vector, level_step, vector_step, vector_worth}
 use Rattle.vital_steps.proofs.SoundLemmas.{first-holds, is_sound_call, level-roll, second-holds, sound-call, truth-roll, vector-length, vector-roll}
 use Rattle.vital_timing.specs.declared.delay.DelayType.{DelayType}
 use Rattle.vital_timing.specs.declared.delay.DelayType.TheVariants.{One}

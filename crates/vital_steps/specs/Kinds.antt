@@ -9,7 +9,7 @@ use Rattle.vital_objects.specs.declared.variable.VariableKind.{VariableKind}
 use Rattle.vital_objects.specs.declared.variable.VariableKind.TheVariants as kind
 use Rattle.vital_sections.specs.declared.timing_check.TimingCheck.{TimingCheck}
 use Rattle.vital_sections.specs.declared.timing_check.TimingCheck.TheVariants as check
-use Rattle.vital_sound.specs.KeptStates.{kept_by}
+use Rattle.vital_typed_cells.specs.KeptStates.{kept_by}
 use Rattle.vital_typed_cells.specs.Bits.{number_of}
 
 -- What a variable of a kind holds. A check of two signals keeps what a check of setup and hold keeps, or one of recovery and removal.

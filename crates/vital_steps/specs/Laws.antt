@@ -10,9 +10,9 @@ use Rattle.vital_machine.specs.Fits.{HaveTimes, kinds_of}
 use Rattle.vital_machine.specs.Machine.{process}
 use Rattle.vital_sections.specs.declared.sections.Sections.{Sections}
 use Rattle.vital_sections.specs.declared.timing_check.TimingCheck.{TimingCheck}
-use Rattle.vital_sound.specs.KeptStates.{kept_by}
-use Rattle.vital_sound.specs.SoundSections.{are_sound_sections}
-use Rattle.vital_sound.specs.SoundStatements.{is_sound_check}
+use Rattle.vital_typed_cells.specs.KeptStates.{kept_by}
+use Rattle.vital_typed_cells.specs.SoundSections.{are_sound_sections}
+use Rattle.vital_typed_cells.specs.SoundStatements.{is_sound_check}
 use Rattle.vital_steps.specs.Formed.{IsFormed}
 use Rattle.vital_steps.specs.Kinds.{AreOfKinds, keeps}
 use Rattle.vital_steps.specs.Named.{by_name, named}

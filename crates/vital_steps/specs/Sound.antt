@@ -2,9 +2,9 @@
 use Rattle.std.specs.Prelude.{ℕ, Bool, true, List, is_some}
 use Rattle.vital_execution.specs.Environments.{constant_of}
 use Rattle.vital_operands.specs.declared.tree.ConstantName.{ConstantName}
-use Rattle.vital_sound.specs.ActualScopes.{ActualScope}
-use Rattle.vital_sound.specs.ExprScopes.{Scope as Tests}
-use Rattle.vital_sound.specs.Named.{has_element, is_glitch_data, is_period_data, is_scalar, is_timing_data, is_vector, is_x01, variable_is}
+use Rattle.vital_typed_cells.specs.ActualScopes.{ActualScope}
+use Rattle.vital_typed_cells.specs.ExprScopes.{Scope as Tests}
+use Rattle.vital_typed_cells.specs.Named.{has_element, is_glitch_data, is_period_data, is_scalar, is_timing_data, is_vector, is_x01, variable_is}
 use Rattle.vital_steps.specs.Scopes.{Scope}
 use Rattle.vital_table.specs.Tables.{is_table}
 use Rattle.vital_typed_cells.specs.Bits.{number_of}

@@ -32,7 +32,7 @@ use Rattle.vital_sections.specs.declared.timing_check.ReferenceParts.{ReferenceP
 use Rattle.vital_sections.specs.declared.timing_check.SetupHoldCheck.{SetupHoldCheck}
 use Rattle.vital_sections.specs.declared.timing_check.TimingCheck.{TimingCheck}
 use Rattle.vital_sections.specs.declared.timing_check.TimingCheck.TheVariants as check
-use Rattle.vital_sound.specs.KeptStates.{kept_by}
+use Rattle.vital_typed_cells.specs.KeptStates.{kept_by}
 use Rattle.vital_steps.specs.Scopes.{Scope, bit_of, names_at, variable_of}
 use Rattle.vital_steps.specs.Sound.{rows_named}
 use Rattle.vital_steps.specs.StandsFor.{IsLevel, IsTruth, IsVector}

@@ -17,7 +17,7 @@ use Rattle.vital_objects.specs.declared.variable.VariableKind.{VariableKind}
 use Rattle.vital_objects.specs.declared.variable.VariableKind.TheVariants as kind
 use Rattle.vital_sections.specs.declared.timing_check.TimingCheck.{TimingCheck}
 use Rattle.vital_sections.specs.declared.timing_check.TimingCheck.TheVariants as check
-use Rattle.vital_sound.specs.SoundDeclarations.{is_sound_constant}
+use Rattle.vital_typed_cells.specs.SoundDeclarations.{is_sound_constant}
 use Rattle.vital_steps.specs.Kinds.{is_of_kind}
 use Rattle.vital_steps.specs.Named.{held_in}
 use Rattle.vital_steps.specs.Scopes.{Scope, names_at}

@@ -2,8 +2,8 @@
 
 ghost use Rattle.std.specs.Prelude.{◌≡◌, ◌+◌, ◌∷◌, ◌++◌, [], ℕ, List, true, IfOk, OnOk, length, map, slice_get};
 ghost use Rattle.std.specs.Option.{option_map, option_map_or};
-ghost use Rattle.vital_sound.specs.SoundDeclarations.{AreSoundPackages, is_sound_constant, is_sound_package};
-ghost use Rattle.vital_sound.specs.Trees.{is_sound_boolean, is_sound_level};
+ghost use Rattle.vital_typed_cells.specs.SoundDeclarations.{AreSoundPackages, is_sound_constant, is_sound_package};
+ghost use Rattle.vital_typed_cells.specs.Trees.{is_sound_boolean, is_sound_level};
 ghost use Rattle.vital_steps.specs.Scopes.{lent, named_worths, names_at, package_worths};
 ghost use Rattle.vital_steps.specs.Sound.{tests};
 ghost use Rattle.vital_steps.specs.Values as spec;

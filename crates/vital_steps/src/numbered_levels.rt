@@ -5,7 +5,7 @@ ghost use Rattle.std.specs.List.{list_all};
 ghost use Rattle.vital_expr.specs.Vectors as vectors;
 ghost use Rattle.vital_operands.specs.declared.tree.LevelExpr.TheVariants as level;
 ghost use Rattle.vital_operands.specs.declared.tree.VectorExpr.TheVariants as vector;
-ghost use Rattle.vital_sound.specs.Trees.{is_sound_level, vector_worth};
+ghost use Rattle.vital_typed_cells.specs.Trees.{is_sound_level, vector_worth};
 ghost use Rattle.vital_steps.specs.Scopes.{lent};
 ghost use Rattle.vital_steps.specs.Sound.{has_table, rows_named, tests};
 ghost use Rattle.vital_steps.specs.StandsFor as spec;

@@ -4,10 +4,10 @@ ghost use Rattle.std.specs.Prelude.{◌≡◌, ◌≤◌, ◌+◌, ◌^◌, ◌<
 ghost use Rattle.std.specs.List.{AllZip, enumerate_from, list_all};
 ghost use Rattle.vital_execution.specs.Statements.{edges};
 ghost use Rattle.vital_sections.specs.declared.timing_check.TimingCheck.TheVariants as timing;
-ghost use Rattle.vital_sound.specs.SoundAssignments.{is_sound_value};
-ghost use Rattle.vital_sound.specs.SoundSections.{are_sound_sections, is_sound_functional, is_sound_state_table};
-ghost use Rattle.vital_sound.specs.SoundStatements.{are_sound_parts, is_sound_check, is_sound_path_delay};
-ghost use Rattle.vital_sound.specs.Trees.{is_sound_boolean};
+ghost use Rattle.vital_typed_cells.specs.SoundAssignments.{is_sound_value};
+ghost use Rattle.vital_typed_cells.specs.SoundSections.{are_sound_sections, is_sound_functional, is_sound_state_table};
+ghost use Rattle.vital_typed_cells.specs.SoundStatements.{are_sound_parts, is_sound_check, is_sound_path_delay};
+ghost use Rattle.vital_typed_cells.specs.Trees.{is_sound_boolean};
 ghost use Rattle.vital_steps.specs.Scopes.{bit_of as bit_of', lent, variable_of as variable_of'};
 ghost use Rattle.vital_steps.specs.Sound.{has_state_table, statement_tests, tests};
 ghost use Rattle.vital_steps.specs.StandsFor.{IsTruth};

@@ -3,7 +3,7 @@
 ghost use Rattle.std.specs.Prelude.{◌≡◌, true, IfOk};
 ghost use Rattle.std.specs.List.{list_all};
 ghost use Rattle.vital_execution.specs.Times as typed;
-ghost use Rattle.vital_sound.specs.Trees.{is_sound_boolean, is_sound_level};
+ghost use Rattle.vital_typed_cells.specs.Trees.{is_sound_boolean, is_sound_level};
 ghost use Rattle.vital_steps.specs.Scopes.{lent};
 ghost use Rattle.vital_steps.specs.Sound.{tests};
 ghost use Rattle.vital_steps.specs.StandsFor as spec;

@@ -6,7 +6,7 @@ use Rattle.std.proofs.lemmas.List.{drop_more}
 use Rattle.vital_structure.specs.declared.content.Content.{Content as Content'}
 use Rattle.vital_structure.specs.Contents.{Content, Signal, WrongType, NotStructural, Nothing, lent}
 use Rattle.vital_structure.specs.Faults.{fault_of, fault_of_signal, first_fault_behind, is_declared}
-use Rattle.vital_walk.proofs.Lists.{map-take}
+use Rattle.vital_nodes.proofs.Lists.{map-take}
 
 -- a fault depends on the names that are declared before it alone
 pub same-fault : (f g : List ℕ → Bool) (c : Content) → ((q : List ℕ) → f q ≡ g q) → fault_of f c ≡ fault_of g c

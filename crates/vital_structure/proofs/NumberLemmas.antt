@@ -5,7 +5,7 @@ use Rattle.std.specs.List.{position_from}
 use Rattle.std.specs.Option.{option_or}
 use Rattle.std.proofs.lemmas.List.{get_or_default, length-map, length-take-le}
 use Rattle.vital_library.proofs.NumberLemmas.{position_from-append}
-use Rattle.vital_walk.proofs.Lists.{map-take}
+use Rattle.vital_nodes.proofs.Lists.{map-take}
 
 -- a map has one number more, under a name that had none
 pub number-more : {A B : Type 0} (see : A → B) (test : B → Bool) (xs : List A) (i : ℕ) (d : A) (old new : Option ℕ) → i < length xs → old ≡ position_from test 0 (map see (take i xs)) → new ≡ option_or old (cond (test (see (get_or xs i d))) (Some i) None) → new ≡ position_from test 0 (map see (take (i + 1) xs))

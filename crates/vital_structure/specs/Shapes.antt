@@ -9,8 +9,8 @@ use Rattle.vital_nodes.specs.declared.decl.Iface.{Iface}
 use Rattle.vital_nodes.specs.declared.expr.Direction.{Direction}
 use Rattle.vital_nodes.specs.declared.expr.Direction.TheVariants.{To, Downto}
 use Rattle.vital_nodes.specs.declared.expr.Suffix.{Suffix}
-use Rattle.vital_walk.specs.Bounds.{Bounds, bounds_of_range, only_range, shown}
-use Rattle.vital_walk.specs.Names.{items_of}
+use Rattle.vital_nodes.specs.Bounds.{Bounds, bounds_of_range, only_range, shown}
+use Rattle.vital_nodes.specs.Names.{items_of}
 use Rattle.vital_structure.specs.declared.part.Part.{Part as Part'}
 use Rattle.vital_structure.specs.declared.part.Part.TheVariants as borrowed_part
 use Rattle.vital_structure.specs.declared.shape.Shape.{Shape as Shape'}

@@ -12,7 +12,7 @@ use Rattle.vital_nodes.specs.declared.decl.Subtype.{Subtype}
 use Rattle.vital_nodes.specs.declared.expr.Expr.{Expr}
 use Rattle.vital_nodes.specs.declared.identifier.Identifier.{Identifier}
 use Rattle.vital_operands.specs.Items.{printed_level, value_of_others}
-use Rattle.vital_walk.specs.Items.{listed_items}
+use Rattle.vital_nodes.specs.Items.{listed_items}
 use Rattle.vital_structure.specs.declared.signal_type.SignalType.{SignalType as SignalType'}
 use Rattle.vital_structure.specs.declared.unit_signal.UnitSignal.{UnitSignal as UnitSignal'}
 use Rattle.vital_structure.specs.Shapes.{Shape, Scalar, Vector}

@@ -3,12 +3,11 @@
 ghost use Rattle.std.specs.Prelude.{◌≡◌};
 ghost use Rattle.std.specs.Option.{option_map};
 ghost use Rattle.vital_structure.specs.Shapes as spec;
-ghost use Rattle.vital_walk.specs.Bounds.{bounds_of_range, shown};
+ghost use Rattle.vital_nodes.specs.Bounds.{bounds_of_range, shown};
 
 use vital_base::Name;
 use vital_declarations::literal_index;
-use vital_nodes::{Choice, Item, Range, Suffix};
-use vital_walk::{LiteralBounds, literal_integer};
+use vital_nodes::{Choice, Item, LiteralBounds, Range, Suffix, literal_integer};
 
 /// What stands behind the identifier of a port or a signal.
 #[derive(Clone, Copy)]

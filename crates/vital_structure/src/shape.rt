@@ -5,14 +5,13 @@ ghost use Rattle.std.specs.Option.{option_and_then};
 ghost use Rattle.vital_declarations.specs.Numbers.{in_word, length_of, number, offset_of, range_of};
 ghost use Rattle.vital_declarations.specs.Types as types;
 ghost use Rattle.vital_structure.specs.Shapes as spec;
-ghost use Rattle.vital_walk.specs.Bounds.{shown};
+ghost use Rattle.vital_nodes.specs.Bounds.{shown};
 
 use crate::part::Part;
 use vital_base::Name;
 use vital_declarations::{DeclaredType, length, offset, type_of};
 use vital_names::LibraryNames;
-use vital_nodes::{Direction, Iface};
-use vital_walk::LiteralBounds;
+use vital_nodes::{Direction, Iface, LiteralBounds};
 
 /// What a port, a signal or a part of one is.
 #[derive(Clone, Copy)]

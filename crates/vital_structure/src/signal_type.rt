@@ -10,9 +10,8 @@ use crate::shape::Shape;
 use vital_declarations::{DeclaredType, character};
 use vital_logic::Level;
 use vital_names::TypeName;
-use vital_nodes::Expr;
+use vital_nodes::{Expr, listed_items};
 use vital_operands::{printed_level, value_of_others};
-use vital_walk::listed_items;
 
 /// A type of levels, or of vectors of levels.
 #[derive(Clone, Copy)]

@@ -12,8 +12,8 @@ use Rattle.vital_nodes.specs.declared.decl.Object.{Object}
 use Rattle.vital_nodes.specs.declared.expr.Expr.{Expr}
 use Rattle.vital_nodes.specs.declared.expr.Item.{Item}
 use Rattle.vital_operands.specs.Items.{all_some}
-use Rattle.vital_walk.specs.Items.{listed_items, positional_value}
-use Rattle.vital_walk.specs.Names.{identifier_of}
+use Rattle.vital_nodes.specs.Items.{listed_items, positional_value}
+use Rattle.vital_nodes.specs.Names.{identifier_of}
 
 -- The symbol that a constant of VitalTableSymbolType is.
 abbrev pub symbol_of_constant : Object → Option ℕ

@@ -15,8 +15,7 @@ use std::marker::Model;
 use vital_declaration_clauses::{Scope, is_symbol};
 use vital_declarations::{TableType, character, row_items};
 use vital_names::{Declared, LibraryNames, Meaning};
-use vital_nodes::{Expr, Item, Object};
-use vital_walk::{identifier_of, listed_items, positional_value};
+use vital_nodes::{Expr, Item, Object, identifier_of, listed_items, positional_value};
 
 /// A table, as the symbols of its rows. Contracts see it as these.
 #[derive(Drop)]

@@ -4,7 +4,7 @@ use Rattle.std.specs.Prelude.{Bool, cond, Option, Some, None}
 use Rattle.std.specs.List.{position_from}
 use Rattle.std.specs.Option.{option_or}
 use Rattle.std.proofs.lemmas.List.{get_or_default, length-map, length-take-le}
-use Rattle.vital_walk.proofs.Lists.{map-take}
+use Rattle.vital_nodes.proofs.Lists.{map-take}
 
 or-first : (b : Bool) (n : ℕ) (all first last : Option ℕ) → all ≡ option_or first last → cond b (Some n) all ≡ option_or (cond b (Some n) first) last
 or-first true n all first last e = refl

@@ -3,7 +3,7 @@ use Rattle.std.proofs.Common.{◌≡◌, ◌<◌, ℕ, ◌+◌, List, [], ◌∷
 use Rattle.std.specs.Prelude.{get_or}
 use Rattle.std.specs.List.{enumerate_from}
 use Rattle.std.proofs.lemmas.List.{length-take-le}
-use Rattle.vital_walk.proofs.Lists.{take-one}
+use Rattle.vital_nodes.proofs.Lists.{take-one}
 
 pub numbered-more : {A B : Type 0} (f : (ℕ × A) → B) (xs : List A) (x : A) (k n : ℕ) → n ≡ k + length xs → map f (enumerate_from k (xs ++ x ∷ [])) ≡ map f (enumerate_from k xs) ++ f (n, x) ∷ []
 numbered-more f [] x k n is = let same : k ≡ n = omega (arith, is) in ap (λ m. f (m, x) ∷ []) same

@@ -10,7 +10,7 @@ use Rattle.vital_nodes.specs.declared.stmt.Process.{Process}
 use Rattle.vital_sections.specs.Sections.{sections}
 use Rattle.vital_statements.specs.Statements.{as_process, is_block, statements_of}
 use Rattle.vital_uses.specs.Statements.{processes as processes_of}
-use Rattle.vital_walk.specs.Names.{plain_identifier}
+use Rattle.vital_nodes.specs.Names.{plain_identifier}
 use Rattle.vital_typed_cells.specs.declared.process.CellProcess.{CellProcess}
 use Rattle.vital_typed_cells.specs.Bits.{names_of, number_of}
 use Rattle.vital_objects.specs.Constants.{constants}

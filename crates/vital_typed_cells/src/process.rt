@@ -9,11 +9,10 @@ use crate::bit_numbers::BitNumbers;
 use sqlite_items::Items;
 use std::alloc::{AllocError, Global};
 use vital_names::{CellNames, ProcessNames};
-use vital_nodes::{Conc, Process, Reference};
+use vital_nodes::{Conc, Process, Reference, plain_identifier};
 use vital_objects::{CellReader, Constant, Variable, read_constants, read_variables};
 use vital_sections::{Sections, read_sections};
 use vital_statements::{as_block, as_process, statements_of};
-use vital_walk::plain_identifier;
 
 /// A process of a cell.
 #[derive(Drop)]

@@ -12,7 +12,7 @@ use Rattle.vital_operands.specs.declared.tree.BooleanExpr.TheVariants as truth
 use Rattle.vital_operands.specs.declared.tree.DelayExpr.TheVariants as delay
 use Rattle.vital_operands.specs.Named.{even_delay}
 use Rattle.vital_operands.specs.Positions.{Position, Standing, Operand, Constant, Word, Nothing, standing}
-use Rattle.vital_walk.specs.Names.{identifier_of}
+use Rattle.vital_nodes.specs.Names.{identifier_of}
 use Rattle.vital_typed_declarations.specs.declared.asked_type.AskedType.{AskedType}
 use Rattle.vital_typed_declarations.specs.declared.asked_type.AskedType.TheVariants as asked
 use Rattle.vital_typed_declarations.specs.declared.value.TypedValue.{TypedValue}

@@ -6,13 +6,12 @@ ghost use Rattle.vital_declarations.specs.Numbers.{range_of};
 ghost use Rattle.vital_declarations.specs.Operands as operands;
 ghost use Rattle.vital_declarations.specs.Types as types;
 ghost use Rattle.vital_typed_declarations.specs.Asked as spec;
-ghost use Rattle.vital_walk.specs.Bounds.{shown};
+ghost use Rattle.vital_nodes.specs.Bounds.{shown};
 
 use vital_declarations::{DeclaredType, VariableType, is_level, length, type_of, variable_type};
 use vital_names::{LibraryNames, TypeName};
-use vital_nodes::{Iface, Object, ObjectClass};
+use vital_nodes::{Iface, LiteralBounds, Object, ObjectClass};
 use vital_timing::DelayType;
-use vital_walk::LiteralBounds;
 
 /// The type that is asked of a value or a default.
 #[derive(Clone, Copy, PartialEq, Eq)]

@@ -15,12 +15,11 @@ use vital_declarations::{DeclaredType, type_of};
 use vital_expr::{Reader, boolean, delay, level, text, time, vector};
 use vital_level0::{DefaultWord, default_word};
 use vital_names::TypeName;
-use vital_nodes::{Expr, Iface};
+use vital_nodes::{Expr, Iface, identifier_of};
 use vital_operands::{
     BooleanExpr, DelayExpr, LevelExpr, Position, Standing, TimeExpr, VectorExpr, even_delay,
 };
 use vital_timing::DelayType;
-use vital_walk::identifier_of;
 
 /// A value or a default of the type that is asked of it.
 #[derive(Drop)]

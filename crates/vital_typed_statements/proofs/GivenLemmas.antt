@@ -8,7 +8,7 @@ use Rattle.std.proofs.lemmas.List.Elements.{filter_map-append}
 use Rattle.std.proofs.lemmas.List.Folds.{list_all-append}
 use Rattle.vital_base.specs.declared.place.Place.{Place}
 use Rattle.vital_expr.specs.Outcomes.{Outcome}
-use Rattle.vital_walk.proofs.Lists.{take-one}
+use Rattle.vital_nodes.proofs.Lists.{take-one}
 use Rattle.vital_typed_statements.specs.declared.given.GivenActual.{GivenActual}
 use Rattle.vital_typed_statements.specs.Given.{are_all_typed, broken_ones, typed_ones}
 

@@ -29,8 +29,8 @@ use Rattle.vital_operands.specs.Named.{is_table, where_holds}
 use Rattle.vital_operands.specs.Positions.{Position, meaning_at}
 use Rattle.vital_statements.specs.Called.{procedure_of}
 use Rattle.vital_statements.specs.Sites.{site_at}
-use Rattle.vital_walk.specs.Items.{actual as actual_given}
-use Rattle.vital_walk.specs.Names.{identifier_of}
+use Rattle.vital_nodes.specs.Items.{actual as actual_given}
+use Rattle.vital_nodes.specs.Names.{identifier_of}
 use Rattle.vital_typed_statements.specs.declared.given.GivenActual.{GivenActual}
 use Rattle.vital_typed_statements.specs.declared.table_use.TableUse.{TableUse}
 use Rattle.vital_typed_statements.specs.declared.table_use.UsedTable.{UsedTable}

@@ -26,9 +26,8 @@ use vital_call_clauses::has_vector_result;
 use vital_calls::{Call, Formals, actual_of, call_of, formals_of_procedure};
 use vital_expr::Reader;
 use vital_names::{CellNames, Procedure, ProcessNames, Site};
-use vital_nodes::{Item, Reference};
+use vital_nodes::{Item, Node, Reference};
 use vital_statements::{procedure_of, site_at};
-use vital_walk::Node;
 
 /// Puts the place of the actual for the formal of a name at the end, unless a name in it breaks another clause.
 fn put_breach(

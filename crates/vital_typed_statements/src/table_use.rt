@@ -8,7 +8,7 @@ ghost use Rattle.vital_operands.specs.Calls.{lent_actuals};
 ghost use Rattle.vital_operands.specs.Named.{where_holds as where_holds'};
 ghost use Rattle.vital_operands.specs.Seen as operands;
 ghost use Rattle.vital_typed_statements.specs.Uses as spec;
-ghost use Rattle.vital_walk.specs.Seen.{seen};
+ghost use Rattle.vital_nodes.specs.Seen.{seen};
 
 use crate::given::GivenActual;
 use crate::state_table::{
@@ -20,9 +20,8 @@ use vital_calls::{Formals, actual_of};
 use vital_declarations::TableType;
 use vital_expr::{Reader, length_of, vector};
 use vital_names::{Declared, Meaning};
-use vital_nodes::{Expr, Item, Reference};
+use vital_nodes::{Expr, Item, Node, Reference, actual, identifier_of};
 use vital_operands::{Position, TableActuals, is_table, table_actuals};
-use vital_walk::{Node, actual, identifier_of};
 
 /// A constant that is a table.
 #[derive(Clone, Copy, PartialEq, Eq)]

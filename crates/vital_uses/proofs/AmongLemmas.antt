@@ -8,8 +8,8 @@ use Rattle.vital_nodes.specs.declared.stmt.Stmt.TheViews.{out-If, out-Stmt}
 use Rattle.vital_nodes.specs.Layers.{StmtLayer}
 use Rattle.vital_nodes.specs.Nodes.{Node, Declaration, Interface, Concurrent, Sequential, Expression, Item, Name, expression_if_there, parts_in_stmt, parts_of, parts_of_branch, sequentials, statements_if_there}
 use Rattle.vital_nodes.specs.Walk.{nodes_of, nodes_of_all}
-use Rattle.vital_walk.specs.Statements.{all_sequential, sequential}
-use Rattle.vital_walk.proofs.Values.{WalkLaw}
+use Rattle.vital_nodes.specs.Statements.{all_sequential, sequential}
+use Rattle.vital_nodes.proofs.Values.{WalkLaw}
 use Rattle.vital_uses.specs.Reads.{is_read, read_in, read_in_layer}
 use Rattle.vital_uses.proofs.EachLemmas.{each-append, each-back, each-filter, each-flat, each-front, each-map, each-unflat, each-weaker}
 

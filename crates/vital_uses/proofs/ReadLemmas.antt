@@ -9,8 +9,8 @@ use Rattle.vital_nodes.specs.Nodes.{Node, expression_if_there, names, sequential
 use Rattle.vital_nodes.specs.Places.{place_of}
 use Rattle.vital_nodes.specs.Walk.{nodes_of, nodes_of_all}
 use Rattle.vital_names.specs.Sites.{Cell, Site}
-use Rattle.vital_walk.specs.Statements.{all_sequential}
-use Rattle.vital_walk.proofs.Values.{WalkLaw}
+use Rattle.vital_nodes.specs.Statements.{all_sequential}
+use Rattle.vital_nodes.proofs.Values.{WalkLaw}
 use Rattle.vital_uses.specs.declared.asked.Asked.{Asked as Asked'}
 use Rattle.vital_uses.specs.Asked.{Asked, asked, asked_at, lent_asked}
 use Rattle.vital_uses.specs.Nodes.{declaration_nodes, nodes_before_statements, nodes_in, nodes_of_process, nodes_of_statements, sited_declarations}

@@ -15,8 +15,8 @@ use Rattle.vital_nodes.specs.Nodes.{Node, Declaration, Interface, Concurrent, Se
 use Rattle.vital_names.specs.Declarations.{Declared as Declared', Generic, Port, Object, Alias}
 use Rattle.vital_names.specs.Meanings.{Meaning, Declared, Constant, Predeclared}
 use Rattle.vital_names.specs.Sites.{Cell}
-use Rattle.vital_walk.specs.Names.{plain_identifier}
-use Rattle.vital_walk.specs.Statements.{all_sequential}
+use Rattle.vital_nodes.specs.Names.{plain_identifier}
+use Rattle.vital_nodes.specs.Statements.{all_sequential}
 use Rattle.vital_uses.specs.Asked.{Asked, asked}
 use Rattle.vital_uses.specs.Unread.{is_unread}
 use Rattle.vital_uses.specs.NamesAt.{NameAt, at, has_name}

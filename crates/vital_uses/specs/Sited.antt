@@ -11,7 +11,7 @@ use Rattle.vital_names.specs.declared.site.CellUnit.TheVariants.{Architecture}
 use Rattle.vital_names.specs.Sites.{Site}
 use Rattle.vital_names.specs.Sites as sites
 use Rattle.vital_names.specs.Viewpoints.{viewpoints}
-use Rattle.vital_walk.specs.Seen.{seen}
+use Rattle.vital_nodes.specs.Seen.{seen}
 use Rattle.vital_uses.specs.declared.sited.SitedNode.{SitedNode as SitedNode'}
 
 -- A declaration, a generic or a port, and the site from which its parts are seen.

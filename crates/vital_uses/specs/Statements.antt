@@ -7,7 +7,7 @@ use Rattle.vital_nodes.specs.declared.stmt.Conc.TheViews.{out-Conc}
 use Rattle.vital_nodes.specs.declared.stmt.Process.{Process as Process'}
 use Rattle.vital_nodes.specs.declared.unit.Arch.{Arch}
 use Rattle.vital_nodes.specs.Layers.{ConcLayer}
-use Rattle.vital_walk.specs.Statements.{all_concurrent}
+use Rattle.vital_nodes.specs.Statements.{all_concurrent}
 
 -- The concurrent statements of an architecture, if there is one, with those in its blocks.
 abbrev pub statements : Option Arch → List Conc

@@ -9,8 +9,8 @@ use Rattle.vital_nodes.specs.declared.expr.Choice.{Choice}
 use Rattle.vital_nodes.specs.declared.expr.Item.{Item}
 use Rattle.vital_nodes.specs.declared.identifier.Identifier.{Identifier}
 use Rattle.vital_nodes.specs.Layers.{ChoiceLayer}
-use Rattle.vital_walk.specs.Items.{actual, formal}
-use Rattle.vital_walk.specs.Names.{identifier_of}
+use Rattle.vital_nodes.specs.Items.{actual, formal}
+use Rattle.vital_nodes.specs.Names.{identifier_of}
 use Rattle.vital_uses.specs.declared.unread.GivenAlone.{GivenAlone as GivenAlone'}
 
 -- What is given to one of these is written or kept by the procedure, and not read. Their names alone tell them: it isn't asked

@@ -16,8 +16,7 @@ use crate::sited::{SitedNode, put_seen_from};
 use crate::statements::CellStatements;
 use std::alloc::{AllocError, Global};
 use vital_names::{CellNames, CellUnit, ProcessNames, Site};
-use vital_nodes::{Conc, Decl, Entity};
-use vital_walk::{HasPlace, Node};
+use vital_nodes::{Conc, Decl, Entity, HasPlace, Node};
 
 /// Those nodes of a cell, of which these are the statements, each at its site.
 pub fn nodes_apart<'a>(

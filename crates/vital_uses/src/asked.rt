@@ -3,15 +3,14 @@
 ghost use Rattle.std.specs.Prelude.{◌≡◌, [], ◌++◌, map, IfOk, OnOk};
 ghost use Rattle.std.specs.List.{cons_option};
 ghost use Rattle.std.specs.Option.{option_copied, option_map};
-ghost use Rattle.vital_walk.specs.Seen.{seen};
+ghost use Rattle.vital_nodes.specs.Seen.{seen};
 ghost use Rattle.vital_uses.specs.Asked.{asked, asked_at, identifier_of_node, lent_asked, unit_of};
 ghost use Rattle.vital_uses.specs.Sited.{lent_node};
 
 use crate::sited::SitedNode;
 use std::alloc::{AllocError, Global};
 use vital_names::{CellNames, Meaning};
-use vital_nodes::{Expr, Identifier};
-use vital_walk::Node;
+use vital_nodes::{Expr, Identifier, Node};
 
 /// An identifier, and what it means where it stands, if it means anything.
 #[derive(Clone, Copy)]

@@ -4,7 +4,7 @@ ghost use Rattle.std.specs.Prelude.{◌≡◌, [], ◌++◌, None, map, IfOk, On
 ghost use Rattle.std.specs.List.{filter_map, flat_map};
 ghost use Rattle.std.specs.Option.{option_copied};
 ghost use Rattle.vital_nodes.specs.Nodes.{Concurrent, names, parts_of, sequentials};
-ghost use Rattle.vital_walk.specs.Seen.{seen};
+ghost use Rattle.vital_nodes.specs.Seen.{seen};
 ghost use Rattle.vital_uses.specs.Nodes as spec;
 ghost use Rattle.vital_names.specs.Sites as sites;
 ghost use Rattle.vital_uses.specs.Sited.{beside, lent_node, seen_from, seen_from_themselves, sited};
@@ -14,8 +14,7 @@ use crate::sited::{SitedNode, put_seen_from, put_seen_from_themselves};
 use std::alloc::{AllocError, Global};
 use vital_base::Place;
 use vital_names::{CellUnit, DeclaredTogether, ProcessNames, Site, viewpoints};
-use vital_nodes::{Conc, Decl, Iface, Reference, Stmt};
-use vital_walk::{Node, put_parts};
+use vital_nodes::{Conc, Decl, Iface, Node, Reference, Stmt, put_parts};
 
 /// Puts parts of declarations of a unit, or of a process of it, and all that they hold at the end, each seen from the viewpoint of its
 /// declaration.

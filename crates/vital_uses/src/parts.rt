@@ -3,13 +3,14 @@
 ghost use Rattle.std.specs.Prelude.{◌≡◌, List, ◌++◌, map, OnOk};
 ghost use Rattle.std.specs.Option.{option_copied};
 ghost use Rattle.vital_nodes.specs.Nodes.{Node as Node'};
-ghost use Rattle.vital_walk.specs.Seen.{seen};
+ghost use Rattle.vital_nodes.specs.Seen.{seen};
 ghost use Rattle.vital_uses.specs.Parts.{apart_of_decl, apart_of_specification, asked_of_alias, asked_of_decl, asked_of_default, asked_of_generic, asked_of_object, asked_of_port, asked_of_subtype, is_level_attribute, type_of_decl, type_of_iface, value_of_decl};
 
 use std::alloc::AllocError;
 use vital_level0::{default_word, is_true};
-use vital_nodes::{Alias, Decl, Iface, Object, Reference, Specification, Subtype};
-use vital_walk::{Node, put_if_there, put_parts};
+use vital_nodes::{
+    Alias, Decl, Iface, Node, Object, Reference, Specification, Subtype, put_if_there, put_parts,
+};
 
 /// A choice of parts of declarations.
 pub trait PartsOf<T> {

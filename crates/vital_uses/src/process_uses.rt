@@ -1,7 +1,7 @@
 //! The names that stand in a process.
 
 ghost use Rattle.std.specs.Prelude.{◌≡◌, map, IfOk};
-ghost use Rattle.vital_walk.specs.Statements.{all_sequential};
+ghost use Rattle.vital_nodes.specs.Statements.{all_sequential};
 ghost use Rattle.vital_uses.specs.Asked.{asked, lent_asked};
 ghost use Rattle.vital_uses.specs.Nodes.{nodes_before_statements, nodes_of_process, nodes_of_statements};
 ghost use Rattle.vital_uses.specs.Sited.{lent_node};
@@ -12,8 +12,7 @@ use crate::sited::SitedNode;
 use std::alloc::{AllocError, Global};
 use std::marker::Model;
 use vital_names::{CellNames, ProcessNames};
-use vital_nodes::Stmt;
-use vital_walk::all_sequential;
+use vital_nodes::{Stmt, all_sequential};
 
 /// A process of a cell, its statements, and what its names mean. Contracts see it as the cell and the process.
 #[derive(Drop)]
@@ -39,7 +38,7 @@ impl<'a> Model for ProcessUses<'a> {
     ghost use Rattle.vital_nodes.specs.contracts.unit.Units as of_units;
     ghost use Rattle.vital_nodes.specs.declared.stmt.Process.{Process};
     ghost use Rattle.vital_names.specs.Sites.{Cell};
-    ghost use Rattle.vital_walk.specs.Statements.{all_sequential};
+    ghost use Rattle.vital_nodes.specs.Statements.{all_sequential};
     ghost use Rattle.vital_uses.specs.Asked as spec;
     ghost use Rattle.vital_uses.specs.Nodes as nodes;
     ghost use Rattle.vital_uses.specs.Sited.{lent_node};

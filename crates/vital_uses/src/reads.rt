@@ -7,9 +7,9 @@ ghost use Rattle.vital_nodes.specs.Nodes.{Expression, Name, parts_of};
 ghost use Rattle.vital_names.specs.FirstNames.{first_in};
 ghost use Rattle.vital_names.specs.Declarations as declarations;
 ghost use Rattle.vital_names.specs.Meanings as meanings;
-ghost use Rattle.vital_walk.specs.Names.{plain_identifier};
-ghost use Rattle.vital_walk.specs.Seen.{seen};
-ghost use Rattle.vital_walk.specs.Statements.{all_sequential};
+ghost use Rattle.vital_nodes.specs.Names.{plain_identifier};
+ghost use Rattle.vital_nodes.specs.Seen.{seen};
+ghost use Rattle.vital_nodes.specs.Statements.{all_sequential};
 ghost use Rattle.vital_uses.specs.Asked.{asked, lent_asked};
 ghost use Rattle.vital_uses.specs.NamesAt.{at, lent_name};
 ghost use Rattle.vital_uses.specs.Reads as spec;
@@ -25,8 +25,10 @@ use crate::unread::is_unread;
 use std::alloc::{AllocError, Global};
 use vital_base::Place;
 use vital_names::{CellUnit, Declared, Meaning, ProcessNames};
-use vital_nodes::{Branch, Mode, ObjectClass, Reference, Stmt, walked_in_preorder};
-use vital_walk::{Node, plain_identifier, put_if_there, put_parts};
+use vital_nodes::{
+    Branch, Mode, Node, ObjectClass, Reference, Stmt, plain_identifier, put_if_there, put_parts,
+    walked_in_preorder,
+};
 
 /// Whether a part of a call is read: it is, unless it is given alone to a formal that isn't read.
 fn is_read(node: Node<'_>) -> bool

@@ -4,13 +4,13 @@ ghost use Rattle.std.specs.Prelude.{◌≡◌, ◌++◌, map, OnOk};
 ghost use Rattle.std.specs.Option.{option_copied};
 ghost use Rattle.vital_nodes.specs.Places.{place_of};
 ghost use Rattle.vital_names.specs.Sites as sites;
-ghost use Rattle.vital_walk.specs.Seen.{seen};
+ghost use Rattle.vital_nodes.specs.Seen.{seen};
 ghost use Rattle.vital_uses.specs.Sited.{lent_node, own_site, seen_from, seen_from_themselves};
 
 use std::alloc::{AllocError, Global};
 use vital_base::Place;
 use vital_names::{CellUnit, ProcessNames, Site};
-use vital_walk::{HasPlace, Node, nodes_of_all};
+use vital_nodes::{HasPlace, Node, nodes_of_all};
 
 /// A node and the site from which it is seen.
 #[derive(Clone, Copy)]

@@ -8,8 +8,7 @@ ghost use Rattle.vital_uses.specs.Statements.{process, processes, statements};
 use std::alloc::{AllocError, Global};
 use std::marker::Model;
 use vital_names::ProcessNames;
-use vital_nodes::{Arch, Conc, Process};
-use vital_walk::all_concurrent;
+use vital_nodes::{Arch, Conc, Process, all_concurrent};
 
 /// The concurrent statements of an architecture, if there is one, and the names of its processes. It is made once for a cell, and
 /// lent to all that stands in the processes. Contracts see it as the architecture.

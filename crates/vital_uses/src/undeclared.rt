@@ -9,8 +9,7 @@ use crate::asked::Asked;
 use std::alloc::AllocError;
 use vital_base::Place;
 use vital_names::CellNames;
-use vital_nodes::Reference;
-use vital_walk::HasPlace;
+use vital_nodes::{HasPlace, Reference};
 
 /// Puts the places of those identifiers at the end that mean nothing where they stand.
 pub fn put_undeclared<'a>(places: &mut Vec<Place>, asked: &[Asked<'a>]) -> Result<(), AllocError>

@@ -4,8 +4,7 @@ ghost use Rattle.std.specs.Prelude.{◌≡◌};
 ghost use Rattle.std.specs.Option.{option_copied, option_map};
 ghost use Rattle.vital_uses.specs.Unread as spec;
 
-use vital_nodes::{Choice, Identifier, Item};
-use vital_walk::{actual, formal, identifier_of};
+use vital_nodes::{Choice, Identifier, Item, actual, formal, identifier_of};
 
 /// A formal and its actual, each an identifier alone.
 #[derive(Clone, Copy)]

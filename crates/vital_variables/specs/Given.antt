@@ -10,9 +10,9 @@ use Rattle.vital_nodes.specs.declared.stmt.Stmt.{Stmt}
 use Rattle.vital_nodes.specs.declared.stmt.Stmt.TheOpen.{Stmt-F}
 use Rattle.vital_nodes.specs.declared.stmt.Stmt.TheViews.{out-Stmt}
 use Rattle.vital_nodes.specs.Layers.{StmtLayer}
-use Rattle.vital_walk.specs.Calls.{call_items}
-use Rattle.vital_walk.specs.Items.{actual}
-use Rattle.vital_walk.specs.Names.{identifier_of}
+use Rattle.vital_nodes.specs.Calls.{call_items}
+use Rattle.vital_nodes.specs.Items.{actual}
+use Rattle.vital_nodes.specs.Names.{identifier_of}
 use Rattle.vital_names.specs.declared.predeclared.Procedure.{Procedure}
 use Rattle.vital_names.specs.Kinds.{procedure_meant}
 use Rattle.vital_names.specs.Sites.{Cell}

@@ -9,7 +9,7 @@ use Rattle.vital_nodes.specs.declared.stmt.Stmt.TheOpen.{Stmt-F}
 use Rattle.vital_nodes.specs.declared.stmt.Stmt.TheViews.{out-Stmt}
 use Rattle.vital_nodes.specs.Layers.{StmtLayer}
 use Rattle.vital_names.specs.Sites.{Cell}
-use Rattle.vital_walk.specs.Statements.{all_sequential}
+use Rattle.vital_nodes.specs.Statements.{all_sequential}
 use Rattle.vital_uses.specs.Asked.{asked}
 use Rattle.vital_variables.specs.declared.formal_use.FormalUse.{FormalUse}
 use Rattle.vital_variables.specs.declared.formal_use.FormalUse.TheVariants.{State, Violation, Assigned}

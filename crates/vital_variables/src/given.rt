@@ -10,8 +10,7 @@ use crate::meant::meant;
 use std::alloc::{AllocError, Global};
 use vital_calls::{ActualForm, form_of, formals_of_procedure};
 use vital_names::{CellNames, Procedure, ProcessNames};
-use vital_nodes::{Identifier, Item, Reference, Stmt};
-use vital_walk::{actual, call_items, identifier_of};
+use vital_nodes::{Identifier, Item, Reference, Stmt, actual, call_items, identifier_of};
 
 /// What the formal that an item is for asks of its actual. The formals that are asked about here come by their names alone, and are
 /// the same in both kinds of state table.

@@ -4,7 +4,7 @@ ghost use Rattle.std.specs.Prelude.{◌≡◌, [], ◌∷◌, ◌++◌, ◌&&◌
 ghost use Rattle.std.specs.List.{flat_map};
 ghost use Rattle.std.specs.Option.{option_copied};
 ghost use Rattle.vital_names.specs.FirstNames.{first_in};
-ghost use Rattle.vital_walk.specs.Statements.{all_sequential};
+ghost use Rattle.vital_nodes.specs.Statements.{all_sequential};
 ghost use Rattle.vital_uses.specs.NamesAt.{lent_name};
 ghost use Rattle.vital_variables.specs.SecondUses as spec;
 

@@ -10,10 +10,10 @@ use Rattle.vital_objects.specs.PackageValues.{value_at}
 use Rattle.vital_operands.specs.declared.tree.ConstantName.{ConstantName}
 use Rattle.vital_operands.specs.declared.tree.ConstantName.TheVariants as constant
 use Rattle.vital_operands.specs.declared.tree.TruthTableCall.{TruthTableCall, out-TruthTableCall}
-use Rattle.vital_sound.specs.Fitting.{are_parted}
-use Rattle.vital_sound.specs.Named.{has_package_rows}
-use Rattle.vital_sound.specs.SoundDeclarations.{names_in_packages}
-use Rattle.vital_sound.specs.Trees.{vector_worth}
+use Rattle.vital_typed_cells.specs.Fitting.{are_parted}
+use Rattle.vital_typed_cells.specs.Named.{has_package_rows}
+use Rattle.vital_typed_cells.specs.SoundDeclarations.{names_in_packages}
+use Rattle.vital_typed_cells.specs.Trees.{vector_worth}
 use Rattle.vital_table.specs.Tables.{is_table}
 use Rattle.vital_worths.specs.Expressions.{rows_of, truth_table, vector}
 use Rattle.vital_worths.specs.Packages.{in_packages, of_packages, packages_worth, rows_in}

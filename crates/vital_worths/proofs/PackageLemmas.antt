@@ -10,7 +10,7 @@ use Rattle.vital_logic.specs.declared.level.Level.TheVariants.{U}
 use Rattle.vital_objects.specs.declared.package_value.PackageValue.{PackageValue}
 use Rattle.vital_objects.specs.declared.package_value.PackageValue.TheVariants as packaged
 use Rattle.vital_objects.specs.PackageValues.{value_at}
-use Rattle.vital_sound.specs.SoundDeclarations.{AreSoundPackages, is_sound_package, names_in_packages}
+use Rattle.vital_typed_cells.specs.SoundDeclarations.{AreSoundPackages, is_sound_package, names_in_packages}
 use Rattle.vital_worths.specs.Expressions.{Worth, level_of, rows_of}
 use Rattle.vital_worths.specs.Packages.{level_of_value, package_levels, package_worth, packages_worth, rows_in, worth_at}
 

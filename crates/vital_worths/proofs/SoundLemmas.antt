@@ -20,8 +20,8 @@ use Rattle.vital_operands.specs.declared.tree.LevelExpr.TheViews.{out-VectorExpr
 use Rattle.vital_operands.specs.declared.tree.TruthTableCall.{TruthTableCall, out-TruthTableCall}
 use Rattle.vital_operands.specs.declared.tree.VectorExpr.{VectorExpr}
 use Rattle.vital_operands.specs.declared.tree.VectorExpr.TheVariants as vector'
-use Rattle.vital_sound.specs.SoundDeclarations.{names_in_packages}
-use Rattle.vital_sound.specs.Trees.{call_step, level_step, vector_step, vector_worth}
+use Rattle.vital_typed_cells.specs.SoundDeclarations.{names_in_packages}
+use Rattle.vital_typed_cells.specs.Trees.{call_step, level_step, vector_step, vector_worth}
 use Rattle.vital_worths.specs.Expressions.{level, vector}
 use Rattle.vital_worths.specs.Packages.{in_packages, packages_worth}
 use Rattle.vital_worths.specs.SoundTrees.{is_sound_call, is_sound_tree, is_sound_vector}

@@ -5,7 +5,7 @@ use Rattle.std.specs.List.{enumerate_from, list_all, list_any}
 use Rattle.std.proofs.lemmas.List.Folds.{list_any-append}
 use Rattle.vital_declarations.specs.declared.declared_type.TableType.TheVariants as table
 use Rattle.vital_logic.specs.declared.level.Level.{Level}
-use Rattle.vital_sound.specs.Fitting.{are_parted}
+use Rattle.vital_typed_cells.specs.Fitting.{are_parted}
 use Rattle.vital_table.specs.Symbols as symbols
 use Rattle.vital_table.specs.Tables.{is_table}
 use Rattle.vital_tables.specs.Symbols as of_types

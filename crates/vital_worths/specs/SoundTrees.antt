@@ -6,8 +6,8 @@ use Rattle.vital_operands.specs.declared.tree.LevelExpr.{LevelExpr}
 use Rattle.vital_operands.specs.declared.tree.LevelExpr.TheFolds.{fold-TruthTableCall}
 use Rattle.vital_operands.specs.declared.tree.TruthTableCall.{TruthTableCall}
 use Rattle.vital_operands.specs.declared.tree.VectorExpr.{VectorExpr}
-use Rattle.vital_sound.specs.SoundDeclarations.{names_in_packages}
-use Rattle.vital_sound.specs.Trees.{call_step, is_sound_level, level_step, vector_step, vector_worth}
+use Rattle.vital_typed_cells.specs.SoundDeclarations.{names_in_packages}
+use Rattle.vital_typed_cells.specs.Trees.{call_step, is_sound_level, level_step, vector_step, vector_worth}
 
 unfoldable pub is_sound_tree : List (Option PackageValue) → LevelExpr → Bool
 is_sound_tree vs t = is_sound_level (names_in_packages vs) t

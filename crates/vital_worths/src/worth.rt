@@ -2,8 +2,8 @@
 
 ghost use Rattle.std.specs.Prelude.{◌≡◌, ◌+◌, ◌<◌, [], length, take, true, IfOk, OnOk};
 ghost use Rattle.std.specs.Option.{option_map_or};
-ghost use Rattle.vital_sound.specs.SoundDeclarations.{AreSoundPackages, is_sound_package, names_in_packages};
-ghost use Rattle.vital_sound.specs.Trees.{is_sound_level};
+ghost use Rattle.vital_typed_cells.specs.SoundDeclarations.{AreSoundPackages, is_sound_package, names_in_packages};
+ghost use Rattle.vital_typed_cells.specs.Trees.{is_sound_level};
 ghost use Rattle.vital_worths.specs.Packages as spec;
 
 use crate::level::level;

@@ -9,7 +9,7 @@ ghost use Rattle.std.specs.Option.{option_copied};
 ghost use Rattle.std.specs.Prelude.{◌≡◌, true, All, IfOk, IfSome};
 ghost use Rattle.vital_as_read.specs.Libraries.{IsCellOfLibrary, IsFromText};
 ghost use Rattle.vital_grammar.specs.Grammar.{grammar};
-ghost use Rattle.vital_sound.specs.SoundDeclarations.{is_sound_port, names_in_packages};
+ghost use Rattle.vital_typed_cells.specs.SoundDeclarations.{is_sound_port, names_in_packages};
 
 use self::constants::{CONSTANTS, LEVELS, NOTHING};
 use self::operators::{CONVERSIONS, NOTS, OPERATORS};

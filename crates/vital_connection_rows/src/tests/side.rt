@@ -2,9 +2,8 @@
 
 use std::alloc::{AllocError, Global};
 use vital_base::Name;
-use vital_nodes::Direction;
+use vital_nodes::{Direction, LiteralBounds};
 use vital_structure::{Part, Shape};
-use vital_walk::LiteralBounds;
 
 /// Two bounds and the direction between them.
 #[derive(Drop)]

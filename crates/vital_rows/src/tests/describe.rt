@@ -10,9 +10,8 @@ use std::alloc::AllocError;
 use vital_base::Place;
 use vital_nodes::{
     Conc, Decl, Designator, Direction, EntityClass, Expr, Identifier, If, Iface, IfaceClass,
-    Instance, Mode, Object, ObjectClass, Specification, Stmt, Subtype, Unit,
+    Instance, Mode, Node, Object, ObjectClass, Specification, Stmt, Subtype, Unit,
 };
-use vital_walk::Node;
 
 /// The text of a row, as it grows.
 pub type Line<'a> = &'a mut String;

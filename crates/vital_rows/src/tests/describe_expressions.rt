@@ -3,10 +3,9 @@
 use super::describe::{Line, put_bytes, put_direction, put_kind, put_text};
 use std::alloc::AllocError;
 use vital_nodes::{
-    Actual, Adding, Choice, Expr, Item, Logical, Multiplying, Reference, Relational, Sign, Suffix,
-    Sum,
+    Actual, Adding, Choice, Expr, HasPlace, Item, Logical, Multiplying, Reference, Relational,
+    Sign, Suffix, Sum,
 };
-use vital_walk::HasPlace;
 
 fn name_of_logical(operator: Logical) -> &'static str {
     match operator {

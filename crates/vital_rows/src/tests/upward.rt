@@ -10,8 +10,7 @@ use sqlite_items::{Boxed, Items};
 use std::alloc::{AllocError, Global};
 use std::test::Fail;
 use vital_base::Place;
-use vital_nodes::{Choice, Expr, Item, Logical};
-use vital_walk::{HasPlace, Node, UpwardRule, fold_up};
+use vital_nodes::{Choice, Expr, HasPlace, Item, Logical, Node, UpwardRule, fold_up};
 
 /// Where the last node in a node stands.
 struct LastPlace;

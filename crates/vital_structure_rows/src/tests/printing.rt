@@ -3,9 +3,8 @@
 use std::alloc::AllocError;
 use vital_associations::{Actual, Association, AssociationsError, Misfit};
 use vital_base::Place;
-use vital_nodes::Identifier;
+use vital_nodes::{Identifier, LiteralBounds};
 use vital_structure::{Part, Shape, Statement, Structure, StructureError, UnitFault, UnitSignal};
-use vital_walk::LiteralBounds;
 
 fn put_bytes(text: &mut String, bytes: &[u8]) -> Result<(), AllocError> {
     for byte in bytes {

@@ -1,7 +1,7 @@
 use Rattle.std.proofs.Common.{refl, arith}
 use Rattle.vital_call_clauses.specs.Clauses as spec
 use Rattle.vital_uses.specs.Sited.{lent_node}
-use Rattle.vital_walk.proofs.Lists.{flat_map-seen, turn-behind}
+use Rattle.vital_nodes.proofs.Lists.{flat_map-seen, turn-behind}
 use Rattle.vital_call_clauses.proofs.clauses.put_wrong_nodes.Goals as goal
 
 pub loop-node-preserved : goal.loop-node-preserved

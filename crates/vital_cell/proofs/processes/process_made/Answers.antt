@@ -2,7 +2,7 @@ use Rattle.std.proofs.Common.{◌≡◌, List, true, map, sym, ◌∙◌, subst}
 use Rattle.vital_cell.specs.Compiled.{with_variables}
 use Rattle.vital_objects.specs.declared.variable.Variable.{Variable}
 use Rattle.vital_sections.specs.declared.timing_check.TimingCheck.{TimingCheck}
-use Rattle.vital_sound.specs.SoundSections.{are_sound_sections}
+use Rattle.vital_typed_cells.specs.SoundSections.{are_sound_sections}
 use Rattle.vital_steps.specs.Scopes.{lent}
 use Rattle.vital_steps.specs.Sound.{has_state_table, statement_tests}
 use Rattle.vital_steps.specs.Steps.{AreSteps}

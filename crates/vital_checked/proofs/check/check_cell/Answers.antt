@@ -3,7 +3,7 @@ use Rattle.std.specs.Prelude.{Ok}
 use Rattle.std.specs.Option.{option_copied}
 use Rattle.vital_level1.specs.declared.level.CellLevel.TheVariants.{Level0, Level1, Neither}
 use Rattle.vital_names.specs.Sites.{Cell}
-use Rattle.vital_sound.specs.Sound.{IsSound}
+use Rattle.vital_typed_cells.specs.Sound.{IsSound}
 use Rattle.vital_checked.proofs.VerdictLemmas.{same-verdict}
 use Rattle.vital_checked.proofs.check.check_cell.Goals as goal
 

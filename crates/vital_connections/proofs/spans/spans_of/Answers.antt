@@ -3,7 +3,7 @@ use Rattle.vital_associations.specs.Associations.{lent as lent'}
 use Rattle.vital_connections.specs.Objects.{lent, shape_at}
 use Rattle.vital_connections.specs.Spans.{span_of, spans_of}
 use Rattle.vital_connections.proofs.spans.spans_of.Goals as goal
-use Rattle.vital_walk.proofs.Lists.{filter_map-seen}
+use Rattle.vital_nodes.proofs.Lists.{filter_map-seen}
 
 pub loop-association-preserved : goal.loop-association-preserved
 loop-association-preserved c =

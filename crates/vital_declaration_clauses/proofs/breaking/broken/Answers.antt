@@ -1,6 +1,6 @@
 use Rattle.std.proofs.Common.{◌++◌, sym, ◌∙◌, ap, arith}
 use Rattle.vital_declaration_clauses.specs.Clauses.{breaks, broken_in}
-use Rattle.vital_walk.proofs.Lists.{flat_map-one}
+use Rattle.vital_nodes.proofs.Lists.{flat_map-one}
 use Rattle.vital_declaration_clauses.proofs.breaking.broken.Goals as goal
 
 pub loop-region-preserved : goal.loop-region-preserved

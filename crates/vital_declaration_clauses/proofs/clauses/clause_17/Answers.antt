@@ -1,7 +1,7 @@
 use Rattle.std.proofs.Common.{◌++◌, take, sym, ◌∙◌, ap, append_assoc, arith}
 use Rattle.std.specs.List.{flat_map}
 use Rattle.vital_declaration_clauses.specs.Clauses.{redeclared_in}
-use Rattle.vital_walk.proofs.Lists.{flat_map-one}
+use Rattle.vital_nodes.proofs.Lists.{flat_map-one}
 use Rattle.vital_declaration_clauses.proofs.clauses.clause_17.Goals as goal
 
 pub loop-region-preserved : goal.loop-region-preserved

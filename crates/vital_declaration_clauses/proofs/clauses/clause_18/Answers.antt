@@ -1,6 +1,6 @@
 use Rattle.std.proofs.Common.{◌∷◌, [], ◌++◌, sym, ◌∙◌, ap, arith}
 use Rattle.vital_declaration_clauses.specs.Clauses.{breaks_18, of_ports}
-use Rattle.vital_walk.proofs.Lists.{map_filter-one}
+use Rattle.vital_nodes.proofs.Lists.{map_filter-one}
 use Rattle.vital_declaration_clauses.proofs.clauses.clause_18.Goals as goal
 
 pub loop-port-preserved : goal.loop-port-preserved

@@ -1,7 +1,7 @@
 use Rattle.std.proofs.Common.{◌∷◌, [], ◌++◌, map, take, sym, ◌∙◌, ap, append_assoc, arith}
 use Rattle.std.specs.List.{filter_map}
 use Rattle.vital_declaration_clauses.specs.Regions.{region_of}
-use Rattle.vital_walk.proofs.Lists.{filter_map-seen}
+use Rattle.vital_nodes.proofs.Lists.{filter_map-seen}
 use Rattle.vital_declaration_clauses.proofs.region.put_regions.Goals as goal
 
 pub loop-conc-preserved : goal.loop-conc-preserved

@@ -1,7 +1,7 @@
 use Rattle.std.proofs.Common.{◌≡◌, rules, sym, ◌∙◌, ap, arith}
 use Rattle.std.specs.Prelude.{Some}
 use Rattle.std.specs.Option.{option_and_then}
-use Rattle.vital_walk.specs.Bounds.{shown}
+use Rattle.vital_nodes.specs.Bounds.{shown}
 use Rattle.vital_declarations.specs.Numbers.{number, range_of}
 use Rattle.vital_declarations.specs.Operands.{VectorOf, offset_in_type, variable_type}
 use Rattle.vital_declarations.specs.Types.{type_of}

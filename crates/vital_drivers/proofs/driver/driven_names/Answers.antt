@@ -2,7 +2,7 @@ use Rattle.std.proofs.Common.{◌∙◌, ap, sym, arith}
 use Rattle.std.specs.Prelude.{◌||◌}
 use Rattle.vital_drivers.specs.Clauses.{drives}
 use Rattle.vital_drivers.specs.PathDelays.{lent}
-use Rattle.vital_walk.proofs.Lists.{any-seen}
+use Rattle.vital_nodes.proofs.Lists.{any-seen}
 use Rattle.vital_drivers.proofs.driver.driven_names.Goals as goal
 
 pub loop-delay-preserved : goal.loop-delay-preserved

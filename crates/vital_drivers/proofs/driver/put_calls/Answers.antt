@@ -3,7 +3,7 @@ use Rattle.std.specs.Prelude.{◌||◌}
 use Rattle.vital_drivers.specs.Clauses.{drives, places_12_at, wrong_out_signal}
 use Rattle.vital_statements.specs.Lists.{place_if}
 use Rattle.vital_drivers.specs.PathDelays.{lent}
-use Rattle.vital_walk.proofs.Lists.{any-seen, put-two, turn-behind}
+use Rattle.vital_nodes.proofs.Lists.{any-seen, put-two, turn-behind}
 use Rattle.vital_statements.proofs.Steps.{each-seen, or-same}
 use Rattle.vital_drivers.proofs.driver.put_calls.Goals as goal
 

@@ -7,7 +7,7 @@ use Rattle.vital_drivers.specs.Kept.{has_name}
 use Rattle.vital_statements.specs.Lists.{place_if}
 use Rattle.vital_drivers.specs.Named.{is_driven_mode}
 use Rattle.vital_drivers.specs.PathDelays.{lent}
-use Rattle.vital_walk.proofs.Lists.{any-one, turn}
+use Rattle.vital_nodes.proofs.Lists.{any-one, turn}
 use Rattle.vital_statements.proofs.Steps.{each-take}
 use Rattle.vital_drivers.proofs.driver.undriven.Goals as goal
 

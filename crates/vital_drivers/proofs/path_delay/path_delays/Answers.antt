@@ -1,6 +1,6 @@
 use Rattle.std.proofs.Common.{refl, arith}
 use Rattle.vital_drivers.specs.PathDelays.{path_delays_in}
-use Rattle.vital_walk.proofs.Lists.{flat_map-seen, turn}
+use Rattle.vital_nodes.proofs.Lists.{flat_map-seen, turn}
 use Rattle.vital_drivers.proofs.path_delay.path_delays.Goals as goal
 
 pub loop-conc-preserved : goal.loop-conc-preserved

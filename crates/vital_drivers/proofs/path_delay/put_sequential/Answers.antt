@@ -1,7 +1,7 @@
 use Rattle.std.proofs.Common.{◌∙◌, ap, arith, sym}
 use Rattle.std.specs.Option.{option_to_list}
 use Rattle.vital_drivers.specs.PathDelays.{path_delay_of_stmt}
-use Rattle.vital_walk.proofs.Lists.{filter_map-seen, only-one, turn-behind}
+use Rattle.vital_nodes.proofs.Lists.{filter_map-seen, only-one, turn-behind}
 use Rattle.vital_drivers.proofs.path_delay.put_sequential.Goals as goal
 
 pub loop-stmt-preserved : goal.loop-stmt-preserved

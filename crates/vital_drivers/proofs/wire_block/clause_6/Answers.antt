@@ -1,6 +1,6 @@
 use Rattle.std.proofs.Common.{refl, arith}
 use Rattle.vital_drivers.specs.Clauses.{places_6_in}
-use Rattle.vital_walk.proofs.Lists.{flat_map-one, turn}
+use Rattle.vital_nodes.proofs.Lists.{flat_map-one, turn}
 use Rattle.vital_drivers.proofs.wire_block.clause_6.Goals as goal
 
 pub loop-conc-preserved : goal.loop-conc-preserved

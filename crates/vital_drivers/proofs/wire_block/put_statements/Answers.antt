@@ -4,7 +4,7 @@ use Rattle.std.specs.List.{filter_map, list_any}
 use Rattle.std.specs.Option.{option_to_list}
 use Rattle.vital_drivers.specs.Clauses.{places_6_at}
 use Rattle.vital_drivers.specs.Wires.{shares, wire_of}
-use Rattle.vital_walk.proofs.Lists.{turn-behind}
+use Rattle.vital_nodes.proofs.Lists.{turn-behind}
 use Rattle.vital_statements.proofs.Steps.{any-kept, each-take, or-same, or-swap, place_if-same}
 use Rattle.vital_drivers.proofs.wire_block.put_statements.Goals as goal
 

@@ -1,6 +1,6 @@
 use Rattle.std.proofs.Common.{refl, arith}
 use Rattle.vital_level1.specs.Forms as spec
-use Rattle.vital_walk.proofs.Lists.{flat_map-seen, turn-behind}
+use Rattle.vital_nodes.proofs.Lists.{flat_map-seen, turn-behind}
 use Rattle.vital_level1.proofs.forms.put_of_all_concurrent.Goals as goal
 
 pub loop-conc-preserved : goal.loop-conc-preserved

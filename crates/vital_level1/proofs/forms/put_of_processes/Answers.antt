@@ -2,7 +2,7 @@ use Rattle.std.proofs.Common.{refl, arith}
 use Rattle.vital_names.specs.Sites.{Cell}
 use Rattle.vital_nodes.specs.declared.stmt.Process.{Process}
 use Rattle.vital_level1.specs.Forms as spec
-use Rattle.vital_walk.proofs.Lists.{flat_map-one, turn-behind}
+use Rattle.vital_nodes.proofs.Lists.{flat_map-one, turn-behind}
 use Rattle.vital_level1.proofs.forms.put_of_processes.Goals as goal
 
 pub loop-process-preserved : goal.loop-process-preserved

@@ -4,7 +4,7 @@ use Rattle.std.specs.Prelude.{Bool}
 use Rattle.std.specs.BTreeSet.{contains}
 use Rattle.std.specs.Ordering.{nat_cmp}
 use Rattle.vital_level1.specs.declared.package_names.NamedConstant.{NamedConstant}
-use Rattle.vital_walk.proofs.Lists.{map_filter-one, turn}
+use Rattle.vital_nodes.proofs.Lists.{map_filter-one, turn}
 use Rattle.vital_level1.proofs.package_names.names_among.Goals as goal
 
 pub loop-one-preserved : goal.loop-one-preserved

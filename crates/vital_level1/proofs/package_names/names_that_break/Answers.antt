@@ -3,7 +3,7 @@ use Rattle.std.proofs.lemmas.List.{get_or_default}
 use Rattle.std.specs.Prelude.{Bool}
 use Rattle.vital_level1.specs.Packages.{breaks}
 use Rattle.vital_level1.specs.declared.package_names.NamedConstant.{NamedConstant}
-use Rattle.vital_walk.proofs.Lists.{map_filter-one, turn}
+use Rattle.vital_nodes.proofs.Lists.{map_filter-one, turn}
 use Rattle.vital_level1.proofs.package_names.names_that_break.Goals as goal
 
 pub loop-one-preserved : goal.loop-one-preserved

@@ -1,7 +1,7 @@
 use Rattle.std.proofs.Common.{refl, arith}
 use Rattle.vital_level1.specs.Packages.{named_by}
 use Rattle.vital_uses.specs.Asked.{lent_asked}
-use Rattle.vital_walk.proofs.Lists.{filter_map-seen, turn-behind}
+use Rattle.vital_nodes.proofs.Lists.{filter_map-seen, turn-behind}
 use Rattle.vital_level1.proofs.package_names.put_named.Goals as goal
 
 pub loop-one-preserved : goal.loop-one-preserved

@@ -1,7 +1,7 @@
 use Rattle.std.proofs.Common.{refl, arith}
 use Rattle.vital_names.specs.Sites.{Cell}
 use Rattle.vital_nodes.specs.declared.stmt.Process.{Process}
-use Rattle.vital_walk.proofs.Lists.{flat_map-one, turn-behind}
+use Rattle.vital_nodes.proofs.Lists.{flat_map-one, turn-behind}
 use Rattle.vital_level1.specs.Packages.{named_in_process}
 use Rattle.vital_level1.proofs.package_names.put_named_in_processes.Goals as goal
 

@@ -2,7 +2,7 @@ use Rattle.std.proofs.Common.{◌<◌, length, refl, arith}
 use Rattle.std.proofs.lemmas.List.{get_or_default}
 use Rattle.std.specs.BTreeSet.{contains}
 use Rattle.std.specs.Ordering.{nat_cmp}
-use Rattle.vital_walk.proofs.Lists.{filter_map-one, turn-behind}
+use Rattle.vital_nodes.proofs.Lists.{filter_map-one, turn-behind}
 use Rattle.vital_level1.specs.Uses.{wrong_use}
 use Rattle.vital_level1.proofs.WrongLemmas.{numbers_more}
 use Rattle.vital_level1.proofs.symbols.put_wrong.Goals as goal

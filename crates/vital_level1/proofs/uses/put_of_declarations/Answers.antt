@@ -1,7 +1,7 @@
 use Rattle.std.proofs.Common.{refl, arith}
 use Rattle.vital_level1.specs.Forms as spec
 use Rattle.vital_typed_declarations.specs.Declarations.{lent_sited}
-use Rattle.vital_walk.proofs.Lists.{flat_map-seen, turn-behind}
+use Rattle.vital_nodes.proofs.Lists.{flat_map-seen, turn-behind}
 use Rattle.vital_level1.proofs.uses.put_of_declarations.Goals as goal
 
 pub loop-declaration-preserved : goal.loop-declaration-preserved

@@ -1,8 +1,8 @@
 use Rattle.std.proofs.Common.{refl, arith}
 use Rattle.vital_typed_statements.specs.Uses.{truth_use_at}
 use Rattle.vital_expr.specs.Seen.{lent}
-use Rattle.vital_walk.specs.Seen.{seen}
-use Rattle.vital_walk.proofs.Lists.{filter_map-seen, turn-behind}
+use Rattle.vital_nodes.specs.Seen.{seen}
+use Rattle.vital_nodes.proofs.Lists.{filter_map-seen, turn-behind}
 use Rattle.vital_level1.proofs.uses.put_truth_uses.Goals as goal
 
 pub loop-node-preserved : goal.loop-node-preserved

@@ -7,7 +7,7 @@ use Rattle.std.specs.Option.{option_or}
 use Rattle.std.specs.List.{position_from}
 use Rattle.vital_library.specs.Constants.{has_name, lent}
 use Rattle.vital_library.proofs.NumberLemmas.{position_from-append}
-use Rattle.vital_walk.proofs.Lists.{map-take}
+use Rattle.vital_nodes.proofs.Lists.{map-take}
 use Rattle.vital_library.proofs.constants.numbers_of.Goals as goal
 
 pub loop-number-preserved : goal.loop-number-preserved

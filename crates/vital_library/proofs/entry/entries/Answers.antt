@@ -4,7 +4,7 @@ use Rattle.std.proofs.lemmas.List.{take_all}
 use Rattle.vital_library.specs.Entries.{entities_with_positions, with_group}
 use Rattle.vital_library.specs.Positions.{seen}
 use Rattle.vital_library.proofs.EntryLemmas.{entities-push, entries-all}
-use Rattle.vital_walk.proofs.Lists.{map-take}
+use Rattle.vital_nodes.proofs.Lists.{map-take}
 use Rattle.vital_library.proofs.entry.entries.Goals as goal
 
 pub loop-at-preserved : goal.loop-at-preserved

@@ -4,7 +4,7 @@ use Rattle.std.specs.Prelude.{◌||◌, [], ◌∷◌}
 use Rattle.vital_library.specs.Faults.{has_entity}
 use Rattle.vital_library.specs.Positions.{units_in}
 use Rattle.vital_library.proofs.FaultLemmas.{has_entity-push}
-use Rattle.vital_walk.proofs.Lists.{map-take}
+use Rattle.vital_nodes.proofs.Lists.{map-take}
 use Rattle.vital_library.proofs.faults.entity_names.Goals as goal
 
 pub loop-at-preserved : goal.loop-at-preserved

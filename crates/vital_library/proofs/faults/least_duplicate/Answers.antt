@@ -5,7 +5,7 @@ use Rattle.std.specs.List.{list_any}
 use Rattle.vital_library.specs.Faults.{duplicate, duplicates, least_of, shares_name, sooner}
 use Rattle.vital_library.specs.Positions.{units_in}
 use Rattle.vital_library.proofs.FaultLemmas.{shares-push, shared-where_old, shared-where_new, least-push_duplicate, least-push_new}
-use Rattle.vital_walk.proofs.Lists.{map-take}
+use Rattle.vital_nodes.proofs.Lists.{map-take}
 use Rattle.vital_library.proofs.faults.least_duplicate.Goals as goal
 use Rattle.vital_library.proofs.faults.least_duplicate.Goals.{then-not-branch, else-not-branch}
 

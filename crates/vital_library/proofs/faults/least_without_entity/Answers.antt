@@ -5,7 +5,7 @@ use Rattle.vital_library.specs.Faults.{no_entity, sooner}
 use Rattle.vital_library.specs.Names.{without_name}
 use Rattle.vital_library.specs.Positions.{units_in}
 use Rattle.vital_library.proofs.FaultLemmas.{fold-push_without}
-use Rattle.vital_walk.proofs.Lists.{map-take}
+use Rattle.vital_nodes.proofs.Lists.{map-take}
 use Rattle.vital_library.proofs.faults.least_without_entity.Goals as goal
 
 pub loop-at-preserved : goal.loop-at-preserved

@@ -5,7 +5,7 @@ use Rattle.vital_library.specs.Numbers.{is_named}
 use Rattle.vital_library.specs.Positions.{units_in}
 use Rattle.vital_library.specs.Units.{entities_among}
 use Rattle.vital_library.proofs.NumberLemmas.{entities-more, number-more, one-entity}
-use Rattle.vital_walk.proofs.Lists.{map-take}
+use Rattle.vital_nodes.proofs.Lists.{map-take}
 use Rattle.vital_library.proofs.numbers.numbers.Goals as goal
 
 pub loop-at-preserved : goal.loop-at-preserved

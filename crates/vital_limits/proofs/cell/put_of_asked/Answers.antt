@@ -1,7 +1,7 @@
 use Rattle.std.proofs.Common.{refl, arith}
 use Rattle.vital_limits.specs.CellLimits as spec
 use Rattle.vital_uses.specs.Asked.{lent_asked}
-use Rattle.vital_walk.proofs.Lists.{flat_map-seen, turn-behind}
+use Rattle.vital_nodes.proofs.Lists.{flat_map-seen, turn-behind}
 use Rattle.vital_limits.proofs.cell.put_of_asked.Goals as goal
 
 pub loop-asked-preserved : goal.loop-asked-preserved

@@ -1,6 +1,6 @@
 use Rattle.std.proofs.Common.{refl, arith}
 use Rattle.vital_limits.specs.CellLimits.{limits_of_process}
-use Rattle.vital_walk.proofs.Lists.{flat_map-one, turn-behind}
+use Rattle.vital_nodes.proofs.Lists.{flat_map-one, turn-behind}
 use Rattle.vital_limits.proofs.cell.put_of_processes.Goals as goal
 
 pub loop-process-preserved : goal.loop-process-preserved

@@ -1,6 +1,6 @@
 use Rattle.std.proofs.Common.{refl, arith}
 use Rattle.vital_limits.specs.NodeLimits.{limits_of_actual}
-use Rattle.vital_walk.proofs.Lists.{flat_map-one, turn-behind}
+use Rattle.vital_nodes.proofs.Lists.{flat_map-one, turn-behind}
 use Rattle.vital_limits.proofs.node_limits.put_of_actuals.Goals as goal
 
 pub loop-item-preserved : goal.loop-item-preserved

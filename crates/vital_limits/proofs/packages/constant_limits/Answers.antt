@@ -4,7 +4,7 @@ use Rattle.std.specs.List.{fold}
 use Rattle.std.proofs.lemmas.List.Sums.{fold-append}
 use Rattle.vital_library.specs.Constants as constants
 use Rattle.vital_limits.specs.ConstantLimits.{next_limits, with_limits, with_next}
-use Rattle.vital_walk.proofs.Lists.{map-take}
+use Rattle.vital_nodes.proofs.Lists.{map-take}
 use Rattle.vital_limits.proofs.packages.constant_limits.Goals as goal
 
 pub loop-object-preserved : goal.loop-object-preserved

@@ -5,8 +5,8 @@ use Rattle.std.proofs.lemmas.List.Sums.{fold-append}
 use Rattle.vital_limits.specs.declared.packages.ConstantLimits.{ConstantLimits}
 use Rattle.vital_limits.specs.ConstantLimits.{joined, limits_at, named_at}
 use Rattle.vital_nodes.specs.Nodes.{Node}
-use Rattle.vital_walk.proofs.Lists.{filter_map-seen}
-use Rattle.vital_walk.specs.Seen.{seen}
+use Rattle.vital_nodes.proofs.Lists.{filter_map-seen}
+use Rattle.vital_nodes.specs.Seen.{seen}
 use Rattle.vital_limits.proofs.packages.joined_with.Goals as goal
 
 pub loop-node-preserved : goal.loop-node-preserved

@@ -5,7 +5,7 @@ use Rattle.vital_limits.specs.declared.packages.ConstantLimits.{ConstantLimits}
 use Rattle.vital_limits.specs.NodeLimits.{are_too_long, are_too_many, is_too_long_node, table_rows}
 use Rattle.vital_limits.proofs.ConstantLemmas.{any-map}
 use Rattle.vital_limits.proofs.packages.own.Goals as goal
-use Rattle.vital_walk.specs.Seen.{seen}
+use Rattle.vital_nodes.specs.Seen.{seen}
 
 abbrev made : Bool → Bool → Bool → ConstantLimits
 made rows columns delay = record { rows = rows; columns = columns; delay = delay }

@@ -1,6 +1,6 @@
 use Rattle.std.proofs.Common.{◌++◌, [], ◌∷◌, ◌∙◌, ap, sym, arith}
 use Rattle.vital_names.specs.Declarations.{declared_by, declared_in}
-use Rattle.vital_walk.proofs.Lists.{filter_map-one}
+use Rattle.vital_nodes.proofs.Lists.{filter_map-one}
 use Rattle.vital_names.proofs.declared_lists.declared_in.Goals as goal
 
 pub loop-declaration-preserved : goal.loop-declaration-preserved

@@ -1,7 +1,7 @@
 use Rattle.std.proofs.Common.{refl, arith}
 use Rattle.vital_objects.specs.Generics.{plain_generic, timing_generic}
 use Rattle.vital_typed_declarations.specs.Declarations.{lent_sited}
-use Rattle.vital_walk.proofs.Lists.{filter_map-seen, turn}
+use Rattle.vital_nodes.proofs.Lists.{filter_map-seen, turn}
 use Rattle.vital_objects.proofs.generic.generics_among.Goals as goal
 
 pub loop-generic-preserved : goal.loop-generic-preserved

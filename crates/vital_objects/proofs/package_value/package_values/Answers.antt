@@ -4,7 +4,7 @@ use Rattle.std.specs.List.{fold}
 use Rattle.std.proofs.lemmas.List.Sums.{fold-append}
 use Rattle.vital_library.specs.Constants as constants
 use Rattle.vital_objects.specs.PackageValues.{next_value, with_next, with_value}
-use Rattle.vital_walk.proofs.Lists.{map-take}
+use Rattle.vital_nodes.proofs.Lists.{map-take}
 use Rattle.vital_objects.proofs.package_value.package_values.Goals as goal
 
 pub loop-object-preserved : goal.loop-object-preserved

@@ -1,6 +1,6 @@
 use Rattle.std.proofs.Common.{refl, arith}
 use Rattle.vital_objects.specs.Signals.{signal}
-use Rattle.vital_walk.proofs.Lists.{filter_map-one, turn}
+use Rattle.vital_nodes.proofs.Lists.{filter_map-one, turn}
 use Rattle.vital_objects.proofs.signal.read_signals.Goals as goal
 
 pub loop-declaration-preserved : goal.loop-declaration-preserved

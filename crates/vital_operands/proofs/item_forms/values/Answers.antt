@@ -2,7 +2,7 @@ use Rattle.std.proofs.Common.{[], ◌∷◌, ◌∙◌, ap, sym, arith}
 use Rattle.std.specs.Borrow.{Bor}
 use Rattle.std.specs.Prelude.{Some}
 use Rattle.std.proofs.lemmas.List.{map-append}
-use Rattle.vital_walk.specs.Items.{positional_value}
+use Rattle.vital_nodes.specs.Items.{positional_value}
 use Rattle.vital_nodes.specs.declared.expr.Expr.{Expr}
 use Rattle.vital_operands.specs.Items.{all_lent}
 use Rattle.vital_operands.proofs.Steps.{all_some-missing, all_some-more}

@@ -1,6 +1,6 @@
 use Rattle.std.proofs.Common.{◌≡◌, take, map}
 use Rattle.std.specs.Prelude.{Some}
-use Rattle.vital_walk.specs.Items.{positional_value}
+use Rattle.vital_nodes.specs.Items.{positional_value}
 use Rattle.vital_operands.specs.Items.{all_lent, all_some}
 use Rattle.vital_operands.proofs.item_forms.values.Given as goal
 

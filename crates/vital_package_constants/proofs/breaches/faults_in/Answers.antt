@@ -1,7 +1,7 @@
 use Rattle.std.proofs.Common.{refl, arith}
 use Rattle.vital_package_constants.specs.Breaches.{fault_at}
-use Rattle.vital_walk.proofs.Lists.{filter_map-seen, turn}
-use Rattle.vital_walk.specs.Seen.{seen}
+use Rattle.vital_nodes.proofs.Lists.{filter_map-seen, turn}
+use Rattle.vital_nodes.specs.Seen.{seen}
 use Rattle.vital_package_constants.proofs.breaches.faults_in.Goals as goal
 
 pub loop-node-preserved : goal.loop-node-preserved

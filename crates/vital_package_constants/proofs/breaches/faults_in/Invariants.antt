@@ -1,7 +1,7 @@
 use Rattle.std.proofs.Common.{◌≡◌, map, take}
 use Rattle.std.specs.List.{filter_map}
 use Rattle.vital_package_constants.specs.Breaches.{fault_at}
-use Rattle.vital_walk.specs.Seen.{seen}
+use Rattle.vital_nodes.specs.Seen.{seen}
 use Rattle.vital_package_constants.proofs.breaches.faults_in.Given as goal
 
 abbrev pub invariant-loop-node : goal.invariant-loop-node

@@ -1,6 +1,6 @@
 use Rattle.vital_package_constants.proofs.BreachLemmas.{any-seen}
 use Rattle.vital_package_constants.specs.Names.{is_wrong_call, nodes_of_constant}
-use Rattle.vital_walk.specs.Seen.{seen}
+use Rattle.vital_nodes.specs.Seen.{seen}
 use Rattle.vital_package_constants.proofs.breaches.has_wrong_call.Goals as goal
 
 pub returns : goal.returns

@@ -6,8 +6,8 @@ use Rattle.vital_package_constants.specs.declared.breaches.ConstantBreaches.{Con
 use Rattle.vital_limits.specs.ConstantLimits.{named_at}
 use Rattle.vital_package_constants.specs.Breaches.{breaches_at, joined}
 use Rattle.vital_nodes.specs.Nodes.{Node}
-use Rattle.vital_walk.proofs.Lists.{filter_map-seen}
-use Rattle.vital_walk.specs.Seen.{seen}
+use Rattle.vital_nodes.proofs.Lists.{filter_map-seen}
+use Rattle.vital_nodes.specs.Seen.{seen}
 use Rattle.vital_package_constants.proofs.breaches.joined_with.Goals as goal
 
 pub loop-node-preserved : goal.loop-node-preserved

@@ -2,7 +2,7 @@ use Rattle.std.proofs.Common.{◌≡◌, length, map, take}
 use Rattle.std.specs.List.{filter_map, fold}
 use Rattle.vital_limits.specs.ConstantLimits.{named_at}
 use Rattle.vital_package_constants.specs.Breaches.{breaches_at, joined}
-use Rattle.vital_walk.specs.Seen.{seen}
+use Rattle.vital_nodes.specs.Seen.{seen}
 use Rattle.vital_package_constants.proofs.breaches.joined_with.Given as goal
 
 abbrev pub invariant-loop-node : goal.invariant-loop-node

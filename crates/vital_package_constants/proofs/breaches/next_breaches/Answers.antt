@@ -6,7 +6,7 @@ use Rattle.vital_nodes.specs.Nodes.{Node}
 use Rattle.vital_package_constants.specs.declared.breaches.ConstantBreaches.{ConstantBreaches}
 use Rattle.vital_package_constants.specs.Breaches.{breaches_at, joined, own}
 use Rattle.vital_package_constants.proofs.breaches.next_breaches.Goals as goal
-use Rattle.vital_walk.specs.Seen.{seen}
+use Rattle.vital_nodes.specs.Seen.{seen}
 
 pub returns : goal.returns
 returns c =

@@ -2,8 +2,8 @@ use Rattle.std.proofs.Common.{sym, ◌∙◌, ap, arith}
 use Rattle.std.specs.Prelude.{◌||◌}
 use Rattle.vital_expr.specs.Seen.{lent}
 use Rattle.vital_package_constants.specs.Tables.{makes_wrong_at}
-use Rattle.vital_walk.proofs.Lists.{any-seen}
-use Rattle.vital_walk.specs.Seen.{seen}
+use Rattle.vital_nodes.proofs.Lists.{any-seen}
+use Rattle.vital_nodes.specs.Seen.{seen}
 use Rattle.vital_package_constants.proofs.tables.has_wrong_table.Goals as goal
 
 pub loop-node-preserved : goal.loop-node-preserved

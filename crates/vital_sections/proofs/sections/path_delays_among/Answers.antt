@@ -1,6 +1,6 @@
 use Rattle.std.proofs.Common.{refl, arith}
 use Rattle.vital_sections.specs.Sections as spec
-use Rattle.vital_walk.proofs.Lists.{filter_map-seen, turn}
+use Rattle.vital_nodes.proofs.Lists.{filter_map-seen, turn}
 use Rattle.vital_sections.proofs.sections.path_delays_among.Goals as goal
 
 pub loop-stmt-preserved : goal.loop-stmt-preserved

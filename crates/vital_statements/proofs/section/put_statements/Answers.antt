@@ -5,7 +5,7 @@ use Rattle.std.specs.Option.{option_map_or, option_to_list}
 use Rattle.vital_statements.specs.Clauses.{places_10_at}
 use Rattle.vital_statements.specs.Sections.{is_later, latest_of, section_of}
 use Rattle.vital_statements.proofs.SectionLemmas.{latest-more}
-use Rattle.vital_walk.proofs.Lists.{turn-behind}
+use Rattle.vital_nodes.proofs.Lists.{turn-behind}
 use Rattle.vital_statements.proofs.Steps.{any-kept, each-take, or-same, place_if-same}
 use Rattle.vital_statements.proofs.section.put_statements.Goals as goal
 

@@ -2,7 +2,7 @@ use Rattle.std.proofs.Common.{◌∙◌, ap, sym, arith}
 use Rattle.std.specs.Prelude.{not, is_some, ◌||◌, ◌&&◌}
 use Rattle.vital_statements.specs.Clauses.{is_wire_delay_block, places_5_at}
 use Rattle.vital_statements.specs.Statements.{as_process, is_block}
-use Rattle.vital_walk.proofs.Lists.{turn}
+use Rattle.vital_nodes.proofs.Lists.{turn}
 use Rattle.vital_statements.proofs.Steps.{any-push, each-take, is_some-map, place_if-same}
 use Rattle.vital_statements.proofs.statement_list.clause_5.Goals as goal
 

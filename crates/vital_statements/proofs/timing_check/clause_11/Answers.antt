@@ -1,6 +1,6 @@
 use Rattle.std.proofs.Common.{refl, arith}
 use Rattle.vital_statements.specs.Clauses.{places_11_in}
-use Rattle.vital_walk.proofs.Lists.{flat_map-seen, turn}
+use Rattle.vital_nodes.proofs.Lists.{flat_map-seen, turn}
 use Rattle.vital_statements.proofs.timing_check.clause_11.Goals as goal
 
 pub loop-conc-preserved : goal.loop-conc-preserved

@@ -3,7 +3,7 @@ use Rattle.std.specs.Prelude.{not}
 use Rattle.vital_nodes.specs.declared.stmt.Stmt.{Stmt}
 use Rattle.vital_nodes.specs.Places.{place_of_stmt}
 use Rattle.vital_statements.specs.Clauses.{is_check_call}
-use Rattle.vital_walk.proofs.Lists.{map_filter-one, turn-behind}
+use Rattle.vital_nodes.proofs.Lists.{map_filter-one, turn-behind}
 use Rattle.vital_statements.proofs.Steps.{kept-one, place_if-same}
 use Rattle.vital_statements.proofs.timing_check.put_others.Goals as goal
 

@@ -4,7 +4,7 @@ use Rattle.std.specs.Option.{option_map_or}
 use Rattle.vital_nodes.specs.Places.{place_of_stmt}
 use Rattle.vital_statements.specs.Clauses.{places_11_at, places_of_if}
 use Rattle.vital_statements.specs.Statements.{as_if, is_if}
-use Rattle.vital_walk.proofs.Lists.{turn-behind}
+use Rattle.vital_nodes.proofs.Lists.{turn-behind}
 use Rattle.vital_statements.proofs.Steps.{any-push, each-take, is_some-copied}
 use Rattle.vital_statements.proofs.timing_check.put_statements.Goals as goal
 

@@ -1,7 +1,7 @@
 use Rattle.std.proofs.Common.{ap, arith}
 use Rattle.vital_statements.specs.Clauses.{others_than_checks}
 use Rattle.vital_statements.proofs.CheckLemmas.{others-take}
-use Rattle.vital_walk.proofs.Lists.{turn-behind}
+use Rattle.vital_nodes.proofs.Lists.{turn-behind}
 use Rattle.vital_statements.proofs.timing_check.put_statements_in_if.Goals as goal
 
 pub loop-branch-preserved : goal.loop-branch-preserved

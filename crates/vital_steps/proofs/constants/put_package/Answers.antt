@@ -1,6 +1,6 @@
 use Rattle.std.proofs.Common.{◌∷◌, ◌++◌, [], true, ◌∙◌, ap}
 use Rattle.std.specs.Option.{option_map, option_map_or}
-use Rattle.vital_sound.specs.SoundDeclarations.{is_sound_package}
+use Rattle.vital_typed_cells.specs.SoundDeclarations.{is_sound_package}
 use Rattle.vital_steps.specs.Scopes.{Scope, lent, package_worths}
 use Rattle.vital_steps.specs.Sound.{tests}
 use Rattle.vital_steps.specs.Values.{package_worth_in, with_packages}

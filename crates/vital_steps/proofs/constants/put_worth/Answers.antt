@@ -1,5 +1,5 @@
 use Rattle.std.proofs.Common.{◌∷◌, ◌++◌, [], ◌∙◌, ap}
-use Rattle.vital_sound.specs.SoundDeclarations.{is_sound_constant}
+use Rattle.vital_typed_cells.specs.SoundDeclarations.{is_sound_constant}
 use Rattle.vital_steps.specs.Scopes.{lent, named_worths}
 use Rattle.vital_steps.specs.Sound.{tests}
 use Rattle.vital_steps.specs.Values.{with_constants, worth_in}

@@ -1,4 +1,4 @@
-use Rattle.vital_sound.specs.SoundStatements.{is_sound_path_delay}
+use Rattle.vital_typed_cells.specs.SoundStatements.{is_sound_path_delay}
 use Rattle.vital_steps.specs.Scopes.{lent}
 use Rattle.vital_steps.specs.Sound.{statement_tests}
 use Rattle.vital_steps.specs.Steps.{IsDelayStep}

@@ -1,4 +1,4 @@
-use Rattle.vital_sound.specs.SoundSections.{is_sound_functional}
+use Rattle.vital_typed_cells.specs.SoundSections.{is_sound_functional}
 use Rattle.vital_steps.specs.Scopes.{lent}
 use Rattle.vital_steps.specs.Sound.{has_state_table, tests}
 use Rattle.vital_steps.specs.Steps.{IsFunctionalStep}

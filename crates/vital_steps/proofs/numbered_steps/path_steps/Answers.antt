@@ -1,4 +1,4 @@
-use Rattle.vital_sound.specs.Trees.{is_sound_boolean}
+use Rattle.vital_typed_cells.specs.Trees.{is_sound_boolean}
 use Rattle.vital_steps.specs.Scopes.{lent}
 use Rattle.vital_steps.specs.Sound.{tests}
 use Rattle.vital_steps.specs.Steps.{IsPathStep}

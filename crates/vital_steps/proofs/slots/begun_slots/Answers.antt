@@ -1,7 +1,7 @@
 use Rattle.std.proofs.Common.{[], sym, ◌∙◌, ap}
 use Rattle.vital_execution.specs.Execution.{held_first}
 use Rattle.vital_objects.specs.declared.variable.Variable.{Variable}
-use Rattle.vital_sound.specs.SoundDeclarations.{is_sound_kind}
+use Rattle.vital_typed_cells.specs.SoundDeclarations.{is_sound_kind}
 use Rattle.vital_steps.specs.Scopes.{lent, names_at}
 use Rattle.vital_steps.specs.Sound.{tests}
 use Rattle.vital_steps.specs.Values.{IsBegun, begins_as}

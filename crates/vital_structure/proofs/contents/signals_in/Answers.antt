@@ -1,6 +1,6 @@
 use Rattle.std.proofs.Common.{◌++◌, [], ◌∷◌, ◌∙◌, ap, sym, arith}
 use Rattle.vital_structure.specs.Contents.{lent, signal_in, signals_in}
-use Rattle.vital_walk.proofs.Lists.{filter_map-seen}
+use Rattle.vital_nodes.proofs.Lists.{filter_map-seen}
 use Rattle.vital_structure.proofs.contents.signals_in.Goals as goal
 
 pub loop-content-preserved : goal.loop-content-preserved

@@ -7,7 +7,7 @@ use Rattle.vital_structure.specs.Contents.{lent}
 use Rattle.vital_structure.specs.Faults.{declares, first_fault_behind, is_declared}
 use Rattle.vital_structure.specs.Faults as faults
 use Rattle.vital_structure.proofs.FaultLemmas.{first-more, same-fault}
-use Rattle.vital_walk.proofs.Lists.{any-seen}
+use Rattle.vital_nodes.proofs.Lists.{any-seen}
 use Rattle.vital_structure.proofs.faults.first_fault.Goals as goal
 
 pub loop-content-preserved : goal.loop-content-preserved

@@ -1,6 +1,6 @@
 use Rattle.std.proofs.Common.{arith, refl}
 use Rattle.vital_typed_cells.specs.Processes.{number_listed}
-use Rattle.vital_walk.proofs.Lists.{filter_map-one, turn}
+use Rattle.vital_nodes.proofs.Lists.{filter_map-one, turn}
 use Rattle.vital_typed_cells.proofs.process.numbers_listed.Goals as goal
 
 pub loop-name-preserved : goal.loop-name-preserved

@@ -1,6 +1,6 @@
 use Rattle.std.proofs.Common.{[], ◌∷◌, ap}
 use Rattle.vital_typed_cells.specs.Processes.{process}
-use Rattle.vital_walk.proofs.Lists.{map-take, turn}
+use Rattle.vital_nodes.proofs.Lists.{map-take, turn}
 use Rattle.vital_typed_cells.proofs.process.read_processes.Goals as goal
 
 pub loop-process-preserved : goal.loop-process-preserved

@@ -1,6 +1,6 @@
 use Rattle.std.proofs.Common.{arith, refl}
 use Rattle.vital_typed_cells.specs.Wires.{wire}
-use Rattle.vital_walk.proofs.Lists.{filter_map-seen, turn}
+use Rattle.vital_nodes.proofs.Lists.{filter_map-seen, turn}
 use Rattle.vital_typed_cells.proofs.wire.read_wires.Goals as goal
 
 pub loop-conc-preserved : goal.loop-conc-preserved

@@ -1,6 +1,6 @@
 use Rattle.std.proofs.Common.{refl, arith}
 use Rattle.vital_typed_declarations.specs.Declarations as spec
-use Rattle.vital_walk.proofs.Lists.{flat_map-one, turn-behind}
+use Rattle.vital_nodes.proofs.Lists.{flat_map-one, turn-behind}
 use Rattle.vital_typed_declarations.proofs.declaration.put_broken_in_regions.Goals as goal
 
 pub loop-region-preserved : goal.loop-region-preserved

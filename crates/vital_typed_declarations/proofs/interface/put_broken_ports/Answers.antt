@@ -1,7 +1,7 @@
 use Rattle.std.proofs.Common.{refl, arith}
 use Rattle.vital_typed_declarations.specs.Declarations as spec
 use Rattle.vital_typed_declarations.specs.Declarations.{lent_sited}
-use Rattle.vital_walk.proofs.Lists.{flat_map-seen, turn-behind}
+use Rattle.vital_nodes.proofs.Lists.{flat_map-seen, turn-behind}
 use Rattle.vital_typed_declarations.proofs.interface.put_broken_ports.Goals as goal
 
 pub loop-port-preserved : goal.loop-port-preserved

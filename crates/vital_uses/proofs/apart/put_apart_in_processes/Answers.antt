@@ -1,6 +1,6 @@
 use Rattle.std.proofs.Common.{arith, refl}
 use Rattle.vital_uses.specs.Apart.{apart_in_process}
-use Rattle.vital_walk.proofs.Lists.{flat_map-one, turn-behind}
+use Rattle.vital_nodes.proofs.Lists.{flat_map-one, turn-behind}
 use Rattle.vital_uses.proofs.apart.put_apart_in_processes.Goals as goal
 
 pub loop-process-preserved : goal.loop-process-preserved

@@ -1,6 +1,6 @@
 use Rattle.std.proofs.Common.{arith, refl}
 use Rattle.vital_uses.specs.Apart.{apart_outside}
-use Rattle.vital_walk.proofs.Lists.{flat_map-seen, turn-behind}
+use Rattle.vital_nodes.proofs.Lists.{flat_map-seen, turn-behind}
 use Rattle.vital_uses.proofs.apart.put_apart_outside.Goals as goal
 
 pub loop-conc-preserved : goal.loop-conc-preserved

@@ -1,6 +1,6 @@
 use Rattle.std.proofs.Common.{arith, refl}
 use Rattle.vital_uses.specs.Apart.{nodes_of_entity_statement}
-use Rattle.vital_walk.proofs.Lists.{flat_map-one, turn-behind}
+use Rattle.vital_nodes.proofs.Lists.{flat_map-one, turn-behind}
 use Rattle.vital_uses.proofs.apart.put_entity_statements.Goals as goal
 
 pub loop-conc-preserved : goal.loop-conc-preserved

@@ -1,7 +1,7 @@
 use Rattle.std.proofs.Common.{arith, refl}
 use Rattle.vital_uses.specs.Asked.{asked_at}
 use Rattle.vital_uses.specs.Sited.{lent_node}
-use Rattle.vital_walk.proofs.Lists.{filter_map-seen, put-said, turn-behind}
+use Rattle.vital_nodes.proofs.Lists.{filter_map-seen, put-said, turn-behind}
 use Rattle.vital_uses.proofs.asked.put_asked_at.Goals as goal
 
 pub loop-node-preserved : goal.loop-node-preserved

@@ -1,5 +1,5 @@
 use Rattle.std.proofs.Common.{ap, [], ◌∷◌}
-use Rattle.vital_walk.proofs.Lists.{map-take, turn}
+use Rattle.vital_nodes.proofs.Lists.{map-take, turn}
 use Rattle.vital_uses.proofs.cell_uses.processes.Goals as goal
 
 pub loop-process-preserved : goal.loop-process-preserved

@@ -2,7 +2,7 @@ use Rattle.std.proofs.Common.{arith, refl}
 use Rattle.vital_nodes.specs.declared.stmt.Process.{Process}
 use Rattle.vital_names.specs.Sites.{Cell}
 use Rattle.vital_uses.specs.Undeclared.{undeclared_in}
-use Rattle.vital_walk.proofs.Lists.{flat_map-one, turn-behind}
+use Rattle.vital_nodes.proofs.Lists.{flat_map-one, turn-behind}
 use Rattle.vital_uses.proofs.cell_uses.put_undeclared_in.Goals as goal
 
 pub loop-process-preserved : goal.loop-process-preserved

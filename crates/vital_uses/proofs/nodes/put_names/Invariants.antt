@@ -1,6 +1,6 @@
 use Rattle.std.proofs.Common.{◌≡◌, ◌++◌, map, take}
 use Rattle.vital_nodes.specs.Nodes.{Name}
-use Rattle.vital_walk.specs.Seen.{seen}
+use Rattle.vital_nodes.specs.Seen.{seen}
 use Rattle.vital_uses.proofs.nodes.put_names.Given as goal
 
 abbrev pub invariant-loop-name : goal.invariant-loop-name

@@ -1,6 +1,6 @@
 use Rattle.std.proofs.Common.{◌≡◌, ◌++◌, map, take}
 use Rattle.vital_nodes.specs.Nodes.{Sequential}
-use Rattle.vital_walk.specs.Seen.{seen}
+use Rattle.vital_nodes.specs.Seen.{seen}
 use Rattle.vital_uses.proofs.nodes.put_statements.Given as goal
 
 abbrev pub invariant-loop-stmt : goal.invariant-loop-stmt

@@ -1,7 +1,7 @@
 use Rattle.std.proofs.Common.{arith, refl}
-use Rattle.vital_walk.specs.Names.{plain_identifier}
+use Rattle.vital_nodes.specs.Names.{plain_identifier}
 use Rattle.vital_uses.specs.NamesAt.{at}
-use Rattle.vital_walk.proofs.Lists.{map_filter_map-one, turn}
+use Rattle.vital_nodes.proofs.Lists.{map_filter_map-one, turn}
 use Rattle.vital_uses.proofs.reads.listed.Goals as goal
 
 pub loop-name-preserved : goal.loop-name-preserved

@@ -1,6 +1,6 @@
 use Rattle.std.proofs.Common.{◌≡◌, map, take}
 use Rattle.std.specs.List.{filter_map}
-use Rattle.vital_walk.specs.Names.{plain_identifier}
+use Rattle.vital_nodes.specs.Names.{plain_identifier}
 use Rattle.vital_uses.specs.NamesAt.{at, lent_name}
 use Rattle.vital_uses.proofs.reads.listed.Given as goal
 

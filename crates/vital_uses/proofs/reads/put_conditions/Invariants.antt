@@ -1,6 +1,6 @@
 use Rattle.std.proofs.Common.{◌≡◌, ◌++◌, map, take}
 use Rattle.vital_nodes.specs.Nodes.{Expression}
-use Rattle.vital_walk.specs.Seen.{seen}
+use Rattle.vital_nodes.specs.Seen.{seen}
 use Rattle.vital_uses.proofs.reads.put_conditions.Given as goal
 
 abbrev pub invariant-loop-branch : goal.invariant-loop-branch

@@ -1,7 +1,7 @@
 use Rattle.std.proofs.Common.{arith, refl}
 use Rattle.vital_uses.specs.Reads.{is_read}
-use Rattle.vital_walk.specs.Seen.{seen}
-use Rattle.vital_walk.proofs.Lists.{filter-seen, turn-behind}
+use Rattle.vital_nodes.specs.Seen.{seen}
+use Rattle.vital_nodes.proofs.Lists.{filter-seen, turn-behind}
 use Rattle.vital_uses.proofs.reads.put_read.Goals as goal
 
 pub loop-node-preserved : goal.loop-node-preserved

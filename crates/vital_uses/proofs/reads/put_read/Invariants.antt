@@ -1,7 +1,7 @@
 use Rattle.std.proofs.Common.{◌≡◌, map, take, ◌++◌}
 use Rattle.std.specs.Prelude.{filter}
 use Rattle.vital_uses.specs.Reads.{is_read}
-use Rattle.vital_walk.specs.Seen.{seen}
+use Rattle.vital_nodes.specs.Seen.{seen}
 use Rattle.vital_uses.proofs.reads.put_read.Given as goal
 
 abbrev pub invariant-loop-node : goal.invariant-loop-node

@@ -3,7 +3,7 @@ use Rattle.std.specs.Prelude.{is_some}
 use Rattle.vital_names.specs.FirstNames.{first_in}
 use Rattle.vital_uses.specs.Asked.{lent_asked}
 use Rattle.vital_uses.specs.Reads.{is_unlisted}
-use Rattle.vital_walk.proofs.Lists.{map_filter-seen, turn-behind}
+use Rattle.vital_nodes.proofs.Lists.{map_filter-seen, turn-behind}
 use Rattle.vital_uses.proofs.reads.put_unlisted.Goals as goal
 
 pub loop-one-preserved : goal.loop-one-preserved

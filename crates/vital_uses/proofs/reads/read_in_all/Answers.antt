@@ -1,6 +1,6 @@
 use Rattle.std.proofs.Common.{arith, refl}
 use Rattle.vital_uses.specs.Reads.{read_in}
-use Rattle.vital_walk.proofs.Lists.{flat_map-seen, turn}
+use Rattle.vital_nodes.proofs.Lists.{flat_map-seen, turn}
 use Rattle.vital_uses.proofs.reads.read_in_all.Goals as goal
 
 pub loop-stmt-preserved : goal.loop-stmt-preserved

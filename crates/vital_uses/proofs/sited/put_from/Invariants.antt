@@ -1,6 +1,6 @@
 use Rattle.std.proofs.Common.{◌≡◌, ◌++◌, map, take}
 use Rattle.vital_names.specs.Sites as sites
-use Rattle.vital_walk.specs.Seen.{seen}
+use Rattle.vital_nodes.specs.Seen.{seen}
 use Rattle.vital_uses.specs.Sited.{lent_node}
 use Rattle.vital_uses.proofs.sited.put_from.Given as goal
 

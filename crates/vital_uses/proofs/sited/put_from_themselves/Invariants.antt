@@ -1,7 +1,7 @@
 use Rattle.std.proofs.Common.{◌≡◌, ◌++◌, map, take}
 use Rattle.std.specs.Option.{option_copied}
 use Rattle.vital_nodes.specs.Places.{place_of}
-use Rattle.vital_walk.specs.Seen.{seen}
+use Rattle.vital_nodes.specs.Seen.{seen}
 use Rattle.vital_uses.specs.Sited.{lent_node, own_site}
 use Rattle.vital_uses.proofs.sited.put_from_themselves.Given as goal
 

@@ -1,6 +1,6 @@
 use Rattle.std.proofs.Common.{arith, refl}
 use Rattle.vital_uses.specs.Parts.{type_of_decl}
-use Rattle.vital_walk.proofs.Lists.{filter_map-one, put-said, turn-behind}
+use Rattle.vital_nodes.proofs.Lists.{filter_map-one, put-said, turn-behind}
 use Rattle.vital_uses.proofs.types.put_declared_types.Goals as goal
 
 pub loop-declaration-preserved : goal.loop-declaration-preserved

@@ -1,7 +1,7 @@
 use Rattle.std.proofs.Common.{arith, refl}
 use Rattle.std.specs.Prelude.{is_none}
 use Rattle.vital_uses.specs.Asked.{lent_asked}
-use Rattle.vital_walk.proofs.Lists.{map_filter-seen, turn-behind}
+use Rattle.vital_nodes.proofs.Lists.{map_filter-seen, turn-behind}
 use Rattle.vital_uses.proofs.undeclared.put_undeclared.Goals as goal
 
 pub loop-one-preserved : goal.loop-one-preserved

@@ -2,7 +2,7 @@ use Rattle.std.proofs.Common.{arith, refl}
 use Rattle.std.specs.Prelude.{is_none}
 use Rattle.vital_nodes.specs.Places.{place_of_name}
 use Rattle.vital_names.specs.TypeNames.{type_named}
-use Rattle.vital_walk.proofs.Lists.{map_filter-seen, turn-behind}
+use Rattle.vital_nodes.proofs.Lists.{map_filter-seen, turn-behind}
 use Rattle.vital_uses.proofs.undeclared.put_unknown_types.Goals as goal
 
 pub loop-name-preserved : goal.loop-name-preserved

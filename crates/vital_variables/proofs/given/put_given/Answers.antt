@@ -1,7 +1,7 @@
 use Rattle.std.proofs.Common.{arith, refl}
 use Rattle.std.specs.List.{filter_map}
 use Rattle.vital_variables.specs.Given.{given_by}
-use Rattle.vital_walk.proofs.Lists.{filter_map-one, put-said, turn-behind}
+use Rattle.vital_nodes.proofs.Lists.{filter_map-one, put-said, turn-behind}
 use Rattle.vital_variables.proofs.given.put_given.Goals as goal
 
 pub loop-item-preserved : goal.loop-item-preserved

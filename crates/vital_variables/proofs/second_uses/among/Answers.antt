@@ -2,7 +2,7 @@ use Rattle.std.proofs.Common.{arith, refl}
 use Rattle.std.specs.Prelude.{is_some}
 use Rattle.vital_names.specs.FirstNames.{first_in}
 use Rattle.vital_uses.specs.NamesAt.{lent_name}
-use Rattle.vital_walk.proofs.Lists.{filter-seen, turn}
+use Rattle.vital_nodes.proofs.Lists.{filter-seen, turn}
 use Rattle.vital_variables.proofs.UseLemmas.{use_at, use_at-is}
 use Rattle.vital_variables.proofs.second_uses.among.Goals as goal
 

@@ -1,7 +1,7 @@
 use Rattle.std.proofs.Common.{arith, refl}
 use Rattle.std.specs.List.{flat_map}
 use Rattle.vital_variables.specs.SecondUses.{assigned}
-use Rattle.vital_walk.proofs.Lists.{flat_map-seen, turn}
+use Rattle.vital_nodes.proofs.Lists.{flat_map-seen, turn}
 use Rattle.vital_variables.proofs.second_uses.assigned.Goals as goal
 
 pub loop-stmt-preserved : goal.loop-stmt-preserved

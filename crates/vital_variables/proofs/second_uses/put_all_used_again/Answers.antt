@@ -3,7 +3,7 @@ use Rattle.std.specs.List.{flat_map}
 use Rattle.vital_nodes.specs.declared.stmt.Process.{Process}
 use Rattle.vital_names.specs.Sites.{Cell}
 use Rattle.vital_variables.specs.SecondUses.{used_again}
-use Rattle.vital_walk.proofs.Lists.{flat_map-one, turn-behind}
+use Rattle.vital_nodes.proofs.Lists.{flat_map-one, turn-behind}
 use Rattle.vital_variables.proofs.second_uses.put_all_used_again.Goals as goal
 
 pub loop-process-preserved : goal.loop-process-preserved

@@ -2,7 +2,7 @@ use Rattle.std.proofs.Common.{arith, refl}
 use Rattle.vital_names.specs.FirstNames.{first_in}
 use Rattle.vital_uses.specs.NamesAt.{lent_name}
 use Rattle.vital_variables.specs.SecondUses.{is_elsewhere}
-use Rattle.vital_walk.proofs.Lists.{map_filter-seen, turn-behind}
+use Rattle.vital_nodes.proofs.Lists.{map_filter-seen, turn-behind}
 use Rattle.vital_variables.proofs.UseLemmas.{use_at, use_at-is}
 use Rattle.vital_variables.proofs.second_uses.put_second.Goals as goal
 

@@ -3,7 +3,7 @@ use Rattle.std.specs.List.{filter_map}
 use Rattle.vital_uses.specs.Asked.{lent_asked}
 use Rattle.vital_uses.specs.NamesAt.{lent_name}
 use Rattle.vital_variables.specs.Variables.{use_of}
-use Rattle.vital_walk.proofs.Lists.{filter_map-seen, put-said, turn}
+use Rattle.vital_nodes.proofs.Lists.{filter_map-seen, put-said, turn}
 use Rattle.vital_variables.proofs.variables.uses.Goals as goal
 
 pub loop-one-preserved : goal.loop-one-preserved

@@ -2,7 +2,7 @@ use Rattle.std.proofs.Common.{arith, refl}
 use Rattle.std.specs.List.{filter_map}
 use Rattle.vital_uses.specs.NamesAt.{lent_name}
 use Rattle.vital_variables.specs.Variables.{use_through}
-use Rattle.vital_walk.proofs.Lists.{filter_map-seen, put-said, turn}
+use Rattle.vital_nodes.proofs.Lists.{filter_map-seen, put-said, turn}
 use Rattle.vital_variables.proofs.variables.uses_through.Goals as goal
 
 pub loop-identifier-preserved : goal.loop-identifier-preserved

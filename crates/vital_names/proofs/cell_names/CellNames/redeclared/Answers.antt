@@ -2,7 +2,7 @@ use Rattle.std.proofs.Common.{[], ◌∷◌, ◌++◌, sym, ◌∙◌, ap, arith
 use Rattle.std.specs.Option.{option_copied}
 use Rattle.vital_names.specs.Declarations.{lent}
 use Rattle.vital_names.specs.Redeclared.{is_redeclared, place_of, redeclared}
-use Rattle.vital_walk.proofs.Lists.{map_filter-seen}
+use Rattle.vital_nodes.proofs.Lists.{map_filter-seen}
 use Rattle.vital_names.proofs.cell_names.CellNames.redeclared.Goals as goal
 
 pub loop-one-preserved : goal.loop-one-preserved

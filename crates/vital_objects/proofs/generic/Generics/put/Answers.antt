@@ -5,7 +5,7 @@ use Rattle.vital_objects.specs.declared.generic.PlainGeneric.{PlainGeneric}
 use Rattle.vital_objects.specs.declared.generic.TimingGeneric.{TimingGeneric}
 use Rattle.vital_objects.specs.Generics.{plain_generic, plain_of_type, timing_generic, timing_of_type}
 use Rattle.vital_typed_declarations.specs.Declarations.{lent_sited}
-use Rattle.vital_walk.proofs.Lists.{only-one}
+use Rattle.vital_nodes.proofs.Lists.{only-one}
 use Rattle.vital_objects.proofs.generic.Generics.put.Goals as goal
 
 pub returns-in-Some-clause-timing : goal.returns-in-Some-clause-timing

@@ -2,7 +2,7 @@ use Rattle.std.proofs.Common.{◌∙◌, ap, map, sym}
 use Rattle.std.specs.List.{list_any}
 use Rattle.vital_operands.specs.Faults.{is_faulty}
 use Rattle.vital_operands.proofs.Steps.{any_map}
-use Rattle.vital_walk.specs.Seen.{seen}
+use Rattle.vital_nodes.specs.Seen.{seen}
 use Rattle.vital_operands.proofs.faults.Faults.is_in.Goals as goal
 
 pub returns : goal.returns

@@ -11,7 +11,7 @@ use Rattle.vital_processes.specs.declared.instances.Instances.{Instances}
 use Rattle.vital_processes.specs.Instances.{HasRun}
 use Rattle.vital_processes.specs.Places.{IsThere}
 use Rattle.vital_processes.proofs.instances.Instances.run.Goals as goal
-use Rattle.vital_sound.specs.Sound.{bit_count}
+use Rattle.vital_typed_cells.specs.Sound.{bit_count}
 
 pub index_mut-instance-requires : goal.index_mut-instance-requires
 index_mut-instance-requires c =

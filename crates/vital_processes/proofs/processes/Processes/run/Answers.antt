@@ -7,7 +7,7 @@ use Rattle.vital_processes.proofs.KeptLemmas.{each-process, is-place, next-state
 use Rattle.vital_processes.specs.Instances.{effects_in, states_in}
 use Rattle.vital_processes.specs.Places.{IsPlace, IsThere}
 use Rattle.vital_processes.specs.Processes.{ProcessStates, after}
-use Rattle.vital_sound.specs.Sound.{bit_count}
+use Rattle.vital_typed_cells.specs.Sound.{bit_count}
 use Rattle.vital_processes.proofs.processes.Processes.run.Goals as goal
 
 pub run-requires-clause-place : goal.run-requires-clause-place

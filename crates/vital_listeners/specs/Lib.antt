@@ -1,3 +1,0 @@
-pub mod Triggered
-pub mod Sensitivities
-pub mod Lists

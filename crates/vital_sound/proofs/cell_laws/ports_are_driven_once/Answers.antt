@@ -1,5 +1,0 @@
-use Rattle.vital_sound.proofs.Driven.{driven-once}
-use Rattle.vital_sound.proofs.cell_laws.ports_are_driven_once.Goals as goal
-
-pub returns : goal.returns
-returns t cell is = driven-once cell is

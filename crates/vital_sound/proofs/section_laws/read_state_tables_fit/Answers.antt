@@ -1,6 +1,0 @@
-use Rattle.vital_sound.proofs.SectionGiven.{call-in}
-use Rattle.vital_sound.proofs.StateTables.{state-table-sound}
-use Rattle.vital_sound.proofs.section_laws.read_state_tables_fit.Goals as goal
-
-pub returns : goal.returns
-returns a s k b scope names tables go = state-table-sound s k b (call-in s k scope names tables) go

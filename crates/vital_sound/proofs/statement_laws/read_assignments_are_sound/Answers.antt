@@ -1,5 +1,0 @@
-use Rattle.vital_sound.proofs.Assignments.{assignment-sound}
-use Rattle.vital_sound.proofs.statement_laws.read_assignments_are_sound.Goals as goal
-
-pub returns : goal.returns
-returns a s c b scope target names tables = assignment-sound s c b scope target names tables

@@ -1,4 +1,0 @@
-pub mod Turns
-pub mod Values
-pub mod Lists
-pub mod Inner
