@@ -1,5 +1,5 @@
 -- Chains that fall in time, and what a change of the queue's map does to them.
-use Rattle.std.proofs.Common.{◌≡◌, ℕ, ◌<◌, ◌≤◌, true, false, not, eqb, List, [], ◌∷◌, ◌++◌, map, filter, Option, Some, None, ◌⊎◌, inl, inr, refl, sym, ap, subst, ◌∙◌, append_assoc, arith}
+use Rattle.std.proofs.Common.{◌≡◌, ℕ, ◌+◌, ◌<◌, ◌≤◌, true, false, not, eqb, List, [], ◌∷◌, ◌++◌, map, filter, Option, Some, None, ◌⊎◌, inl, inr, refl, sym, ap, subst, ◌∙◌, append_assoc, arith}
 use Rattle.std.specs.declared.cmp.Ordering.{Ordering}
 use Rattle.std.specs.declared.cmp.Ordering.TheVariants.{Less, Equal, Greater}
 use Rattle.std.specs.Ordering.{match_ordering}
@@ -7,12 +7,12 @@ use Rattle.std.specs.BTreeMap.{is_at, insert_entry}
 use Rattle.std.specs.Map.{keys_of, lookup, remove_entry, set_value}
 use Rattle.std.specs.List.{AllByRecursion}
 use Rattle.std.specs.List.Sorted.{IsStrictlySortedBy}
-use Rattle.std.proofs.lemmas.Bool.{le-ltb, lt-ltb, cases_eq, cases_Bool, eq-eqb, ne_eqb}
+use Rattle.std.proofs.lemmas.Bool.{le-ltb, lt-ltb, lt-leb, le-leb, cases_eq, cases_Bool, eq-eqb, ne_eqb}
 use Rattle.std.proofs.lemmas.List.{append-nil, map-append}
 use Rattle.std.proofs.lemmas.List.Elements.{filter-append}
 use Rattle.std.proofs.lemmas.Map.Keys.{sorted_head, sorted_tail}
 use Rattle.vital_agenda.specs.declared.entry.Entry.{Entry}
-use Rattle.vital_agenda.specs.Queues.{Keyed, latest, ComesBefore, IsChain, only_of, chain_of, AllBefore, Falls, is_before, is_after, without, with_none_before, entry_of}
+use Rattle.vital_agenda.specs.Queues.{Keyed, latest, ComesBefore, IsChain, only_of, chain_of, AllBefore, Falls, is_before, is_after, is_up_to, without, with_none_before, entry_of}
 use Rattle.vital_agenda.proofs.Keys.{Key, key_cmp, key_less, key_equal, key_greater, key_less_trans, key_same, found_is, found_there}
 
 -- ---- entries that come after a time, or before it
@@ -69,6 +69,14 @@ before_is_before time (x ∷ xs) h = rw (lt-ltb x.0.0 time h.0) (ap (cons x) (be
 pub before_not_after : (time : ℕ) (xs : List Keyed) → AllBefore time xs → filter (is_after time) xs ≡ []
 before_not_after time [] h = refl
 before_not_after time (x ∷ xs) h = rw (le-ltb time x.0.0 (omega (arith, h.0))) (before_not_after time xs h.1)
+
+pub after_not_up_to : (time : ℕ) (xs : List Keyed) → AllAfter time xs → filter (is_up_to time) xs ≡ []
+after_not_up_to time [] h = refl
+after_not_up_to time (x ∷ xs) h = rw (lt-leb x.0.0 time h.0) (after_not_up_to time xs h.1)
+
+pub up_to_all : (time : ℕ) (xs : List Keyed) → AllBefore (time + 1) xs → filter (is_up_to time) xs ≡ xs
+up_to_all time [] h = refl
+up_to_all time (x ∷ xs) h = rw (le-leb x.0.0 time (omega (arith, h.0))) (ap (cons x) (up_to_all time xs h.1))
 
 pub without_after : (time : ℕ) (xs : List Keyed) → AllAfter time xs → without time xs ≡ xs
 without_after time [] h = refl

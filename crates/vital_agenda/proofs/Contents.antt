@@ -1,16 +1,15 @@
 -- The content of an agenda that keeps one queue.
-use Rattle.std.proofs.Common.{◌≡◌, ℕ, zero, suc, ◌+◌, ◌-◌, ◌<◌, List, [], ◌∷◌, length, get_or, set, Option, Some, None, inl, inr, refl, ap, subst, sym, ◌∙◌, zero-add, arith}
+use Rattle.std.proofs.Common.{◌≡◌, ℕ, zero, suc, ◌+◌, ◌<◌, List, [], ◌∷◌, length, get_or, set, Option, Some, None, inl, inr, refl, ap, subst, sym, ◌∙◌, zero-add, arith}
 use Rattle.std.proofs.lemmas.Bool.{cases_lt, cases_eq}
 use Rattle.std.proofs.lemmas.List.{length-set, get_or-set_same, get_or-set_other, get_or_past, get_or_read}
-use Rattle.vital_base.specs.declared.kind.Kind.TheVariants.{Transport, Inertial}
+use Rattle.vital_base.specs.declared.kind.Kind.{Kind}
 use Rattle.vital_logic.specs.declared.level.Level.{Level}
-use Rattle.vital_agenda.specs.declared.stay.Stay.TheVariants.{Same}
 use Rattle.vital_agenda.specs.declared.transaction.Transaction.{Transaction}
-use Rattle.vital_agenda.specs.Driver.{Driver, RisesFrom, AllRise, send, with_new, kept}
-use Rattle.vital_agenda.specs.Agendas.{changed}
-use Rattle.vital_agenda.specs.Queues.{Keyed, IsChain, KeepsOthers, chain_of, latest, pending_of, rising, last_staying, with_pending}
+use Rattle.vital_agenda.specs.Driver.{Driver, RisesFrom, AllRise, send, with_new, pending_after}
+use Rattle.vital_agenda.specs.Agendas.{Content, changed}
+use Rattle.vital_agenda.specs.Queues.{Keyed, IsChain, KeepsOthers, chain_of, latest, pending_of, rising, with_pending}
 use Rattle.vital_agenda.specs.OneQueue.{IsOneQueue, drivers_from}
-use Rattle.vital_agenda.proofs.Rising.{same_are_kept}
+use Rattle.vital_agenda.proofs.Rising.{left_by, left_is}
 
 pub length-drivers : (number : ℕ) (currents : List Level) (es : List Keyed) → length (drivers_from number currents es) ≡ length currents
 length-drivers number [] es = refl
@@ -77,26 +76,23 @@ driver_is_there now driver es currents lasts time h last = elim (cases_lt driver
   | inr ge ↦ let no : None ≡ Some time = sym (get_or_past lasts driver None ge) ∙ h.starts driver ∙ last in cc
 ]
 
+-- a driver that is there has a time of its last entry, or none
+pub has_last : (driver : ℕ) (content : Content) (now : ℕ) (currents : List Level) (es : List Keyed) (lasts : List (Option ℕ)) → record { now = now; drivers = drivers_from 0 currents es } ≡ content
+    → length lasts ≡ length currents → driver < length content.drivers → driver < length lasts
+has_last driver content now currents es lasts view one_each there = omega (arith, there, ap (λ (s : Content). length s.drivers) view, length-drivers 0 currents es, one_each)
+
 -- ---- an assignment
 
-changed_twice : (now time driver : ℕ) (value : Level) (delay : ℕ) (ds : List Driver) → time ≡ now + delay → AllRise now ds
-    → changed driver (with_pending (last_staying (Same value))) (changed driver (with_pending (λ pending. with_new pending time value)) ds) ≡ changed driver (send now Inertial value delay) ds
-changed_twice now time driver value delay [] sum h = refl
-changed_twice now time zero value delay (d ∷ ds) sum h =
-    let limit : now ≡ now + delay - delay = omega arith in
-    let same : last_staying (Same value) (with_new d.pending (now + delay) value) ≡ kept (now + delay - delay) (with_new d.pending (now + delay) value) =
-    same_are_kept now (now + delay) value d.pending h.0 ∙ ap (λ (n : ℕ). kept n (with_new d.pending (now + delay) value)) limit in
-    ap (λ (t : ℕ). (record { current = d.current; pending = last_staying (Same value) (with_new d.pending t value) }) ∷ ds) sum
-    ∙ ap (λ (xs : List Transaction). (record { current = d.current; pending = xs }) ∷ ds) same
-changed_twice now time (suc driver) value delay (d ∷ ds) sum h = ap (λ (xs : List Driver). d ∷ xs) (changed_twice now time driver value delay ds sum h.1)
+sent_by : (driver : ℕ) (change : List Transaction → List Transaction) (now : ℕ) (kind : Kind) (value : Level) (delay : ℕ) (ds : List Driver) → AllRise now ds
+    → ((xs : List Transaction) → RisesFrom now xs → change xs ≡ pending_after kind now value delay xs) → changed driver (with_pending change) ds ≡ changed driver (send now kind value delay) ds
+sent_by driver change now kind value delay [] h same = refl
+sent_by zero change now kind value delay (d ∷ ds) h same = ap (λ (xs : List Transaction). (record { current = d.current; pending = xs }) ∷ ds) (same d.pending h.0)
+sent_by (suc driver) change now kind value delay (d ∷ ds) h same = ap (λ (xs : List Driver). d ∷ xs) (sent_by driver change now kind value delay ds h.1 same)
 
-pub inertial : (now time driver : ℕ) (value : Level) (delay : ℕ) (ds : List Driver) → time ≡ now + delay → AllRise now ds
-    → changed driver (with_pending (last_staying (Same value))) (changed driver (with_pending (λ pending. with_new pending time value)) ds) ≡ changed driver (send now Inertial value delay) ds
-inertial now time driver value delay ds sum h = changed_twice now time driver value delay ds sum h
-
-pub transport : (now time driver : ℕ) (value : Level) (delay : ℕ) (ds : List Driver) → time ≡ now + delay
-    → changed driver (with_pending (λ pending. with_new pending time value)) ds ≡ changed driver (send now Transport value delay) ds
-transport now time driver value delay ds sum = ap (λ (t : ℕ). changed driver (with_pending (λ pending. with_new pending t value)) ds) sum
+pub sent_is : (driver now : ℕ) (kind : Kind) (value : Level) (delay : ℕ) (ds : List Driver) → AllRise now ds
+    → changed driver (with_pending (λ pending. left_by kind value (with_new pending (now + delay) value))) ds ≡ changed driver (send now kind value delay) ds
+sent_is driver now kind value delay ds h =
+    sent_by driver (λ (pending : List Transaction). left_by kind value (with_new pending (now + delay) value)) now kind value delay ds h (λ xs rises. left_is kind now value delay xs rises)
 
 pub length-changed : (i : ℕ) (change : Driver → Driver) (ds : List Driver) → length (changed i change ds) ≡ length ds
 length-changed i change [] = refl

@@ -109,6 +109,10 @@ some_latest : (xs : List Keyed) (e : Keyed) → (time : ℕ) × (latest (xs ++ e
 some_latest [] e = (e.0.0, refl)
 some_latest (x ∷ xs) e = (x.0.0, refl)
 
+pub first_key : (e : Keyed) (es : List Keyed) → slice_get es 0 ≡ Some e → slice_get (keys_of es) 0 ≡ Some e.0
+first_key e [] h = cc
+first_key e (x ∷ es) h = let same : x ≡ e = cc in ap (λ (y : Keyed). Some y.0) same
+
 pub first_is_there : (now : ℕ) (e : Keyed) (es : List Keyed) (currents : List Level) (lasts : List (Option ℕ)) → IsOneQueue now es currents lasts → slice_get es 0 ≡ Some e → e.0.1 < length currents
 first_is_there now e es currents lasts h first =
     let split = first_split e es first in
@@ -262,11 +266,6 @@ pub next_is_none : (currents : List Level) (es : List Keyed) → es ≡ [] → n
 next_is_none currents es empty = ap (λ (c : List Keyed). next_time (drivers_from 0 currents c)) empty ∙ nothing_next 0 currents
 
 -- ---- a driver is taken
-
-pub due_is_there : (time number : ℕ) (value : Level) (ds : List Driver) → IsFirstDue time number value ds → number < length ds
-due_is_there time number value [] h = absurd h
-due_is_there time zero value (d ∷ ds) h = omega arith
-due_is_there time (suc number) value (d ∷ ds) h = omega (arith, due_is_there time number value ds h.1)
 
 -- the drivers after one got its value
 abbrev pub taken : ℕ → ℕ → Level → List Driver → List Driver

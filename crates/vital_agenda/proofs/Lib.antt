@@ -1,6 +1,7 @@
 mod Rows
 pub mod Keys
 pub mod Chains
+pub mod Parts
 pub mod Walks
 pub mod Unlinks
 pub mod Rising

@@ -1,14 +1,16 @@
 -- Transactions at strictly rising times.
-use Rattle.std.proofs.Common.{◌≡◌, ℕ, ◌+◌, ◌<◌, ◌≤◌, Bool, true, false, not, cond, ◌&&◌, eqb, List, [], ◌∷◌, ◌++◌, filter, Option, Some, None, inl, inr, refl, ap, sym, ◌∙◌, arith}
+use Rattle.std.proofs.Common.{◌≡◌, ℕ, ◌+◌, ◌-◌, ◌<◌, ◌≤◌, Bool, true, false, not, cond, ◌&&◌, eqb, List, [], ◌∷◌, ◌++◌, filter, Option, Some, None, inl, inr, refl, ap, sym, ◌∙◌, arith}
 use Rattle.std.specs.Prelude.{find, is_some}
 use Rattle.std.specs.Option.{option_map_or}
 use Rattle.std.proofs.lemmas.Bool.{le-ltb, lt-ltb, cases_Bool, cases_lt, cases_eq, eq-eqb, eqb-true, ne_eqb, and_parts}
+use Rattle.vital_base.specs.declared.kind.Kind.{Kind}
+use Rattle.vital_base.specs.declared.kind.Kind.TheVariants.{Transport, Inertial}
 use Rattle.vital_logic.specs.declared.level.Level.{Level}
 use Rattle.vital_logic.specs.Levels.{byte_of}
 use Rattle.vital_agenda.specs.declared.stay.Stay.{Stay}
 use Rattle.vital_agenda.specs.declared.stay.Stay.TheVariants.{After, Same}
 use Rattle.vital_agenda.specs.declared.transaction.Transaction.{Transaction}
-use Rattle.vital_agenda.specs.Driver.{Driver, RisesFrom, is_before, is_at, is_kept, kept, same_level, with_new, advance}
+use Rattle.vital_agenda.specs.Driver.{Driver, RisesFrom, is_before, is_at, is_kept, kept, same_level, with_new, pending_after, advance}
 use Rattle.vital_agenda.specs.Agendas.{is_due}
 use Rattle.vital_agenda.specs.Queues.{all_stay, last_staying}
 
@@ -88,7 +90,7 @@ after_are_others time (x ∷ xs) h = elim (cases_eq x.time time) [
 abbrev SameAs : Level → Stay
 SameAs value = Same value
 
-same_itself : (a : Level) → same_level a a ≡ true
+pub same_itself : (a : Level) → same_level a a ≡ true
 same_itself a = eq-eqb (byte_of a) (byte_of a) refl
 
 -- where b and x have one value, a has that of b where it has that of x
@@ -128,8 +130,25 @@ kept_are_same limit (a ∷ xs) x h =
       | inr some ↦ rw (test, some) rest
     ]
 
-pub same_are_kept : (now time : ℕ) (value : Level) (xs : List Transaction) → RisesFrom now xs → last_staying (SameAs value) (with_new xs time value) ≡ kept now (with_new xs time value)
+same_are_kept : (now time : ℕ) (value : Level) (xs : List Transaction) → RisesFrom now xs → last_staying (SameAs value) (with_new xs time value) ≡ kept now (with_new xs time value)
 same_are_kept now time value xs h = kept_are_same now (filter (is_before time) xs) (record { time = time; value = value }) (filter_rises (is_before time) now xs h)
+
+-- ---- what an assignment leaves
+
+-- of some transactions, of which the last one is the new one
+abbrev pub left_by : Kind → Level → List Transaction → List Transaction
+left_by Transport value pending = pending
+left_by Inertial value pending = last_staying (Same value) pending
+
+pub left_by_rises : (kind : Kind) (value : Level) (low : ℕ) (xs : List Transaction) → RisesFrom low xs → RisesFrom low (left_by kind value xs)
+left_by_rises Transport value low xs h = h
+left_by_rises Inertial value low xs h = last_staying_rises (Same value) low xs h
+
+pub left_is : (kind : Kind) (now : ℕ) (value : Level) (delay : ℕ) (xs : List Transaction) → RisesFrom now xs → left_by kind value (with_new xs (now + delay) value) ≡ pending_after kind now value delay xs
+left_is Transport now value delay xs h = refl
+left_is Inertial now value delay xs h =
+    let limit : now ≡ now + delay - delay = omega arith in
+    same_are_kept now (now + delay) value xs h ∙ ap (λ (n : ℕ). kept n (with_new xs (now + delay) value)) limit
 
 -- ---- a driver in a cycle
 

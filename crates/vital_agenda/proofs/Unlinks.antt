@@ -1,16 +1,19 @@
 -- Unlinking entries of a driver.
 use Rattle.std.proofs.Common.{◌≡◌, ℕ, ◌+◌, ◌<◌, Bool, true, false, not, ◌&&◌, cond, ltb, eqb, List, [], ◌∷◌, ◌++◌, length, map, filter, Option, Some, None, inl, inr, refl, sym, ap, subst, ◌∙◌, arith}
-use Rattle.std.specs.Option.{option_and_then}
-use Rattle.std.specs.Prelude.{is_some}
-use Rattle.std.proofs.lemmas.Bool.{cases_Bool, cases_lt, cases_eq, eq-eqb, ne_eqb, lt-ltb, le-ltb, lt-leb, le-leb}
+use Rattle.std.specs.Option.{option_and, option_and_then, option_map_or}
+use Rattle.std.specs.Map.{keys_of}
+use Rattle.std.specs.Prelude.{IfSome, IsSome, ◌↔◌, slice_get}
+use Rattle.std.proofs.lemmas.Bool.{cases_Bool, cases_lt, cases_eq, eq-eqb, ne_eqb, lt-ltb, le-ltb, lt-leb}
 use Rattle.std.proofs.lemmas.List.{append-nil, length-append}
 use Rattle.std.proofs.lemmas.List.Elements.{filter-append}
 use Rattle.vital_agenda.specs.declared.entry.Entry.{Entry}
 use Rattle.vital_agenda.specs.declared.stay.Stay.{Stay}
+use Rattle.vital_agenda.specs.declared.stay.Stay.TheVariants.{After as Later}
 use Rattle.vital_agenda.specs.declared.transaction.Transaction.{Transaction}
-use Rattle.vital_agenda.specs.Queues.{Keyed, latest, earliest, IsChain, IsNotAfter, IsChainAfter, IsTimeOf, AllBefore, Falls, entry_of, is_up_to, is_after, without, with_none_before, later_than, stays, transaction_of, first_staying, after_staying, rising, all_stay, last_staying}
-use Rattle.vital_agenda.proofs.Chains.{front_is_after, rest_falls, before_more, without_before, without_after, after_is_after, before_not_after, chain_falls}
-use Rattle.vital_agenda.proofs.Walks.{rest_is_chain, entry_here}
+use Rattle.vital_agenda.specs.Queues.{Keyed, chain_of, latest, earliest, IsChain, IsNotAfter, IsChainAfter, IsTimeOf, AllBefore, Falls, entry_of, is_up_to, without, with_none_before, later_than, stays, transaction_of, first_staying, rising, all_stay, last_staying}
+use Rattle.vital_agenda.proofs.Chains.{AllAfter, only_mine, up_to_all, front_is_after, rest_falls, before_more, without_before, without_after, chain_falls}
+use Rattle.vital_agenda.proofs.Keys.{Key}
+use Rattle.vital_agenda.proofs.Parts.{back_from, entry_here, parts_at, left_is, kept_is_later}
 
 -- the time of the entry before the one at a time
 abbrev pub before_at : ℕ → List Keyed → Option ℕ
@@ -75,10 +78,6 @@ unlinks_after time late last next whole old new found h next_is new_is =
     let here : After time (Some late) whole old = subst (λ (l : Option ℕ). After time l whole old) is.0 h in
     subst (λ (n : Option ℕ). AfterStep time n whole old new) (sym next_is)
     (subst (λ (c : List Keyed). AfterStep time (before_at late old) whole old c) (sym new_is) (unlink_first time late whole old is.1 here))
-
-up_to_all : (time : ℕ) (xs : List Keyed) → AllBefore (time + 1) xs → filter (is_up_to time) xs ≡ xs
-up_to_all time [] h = refl
-up_to_all time (x ∷ xs) h = rw (le-leb x.0.0 time (omega (arith, h.0))) (ap (λ (ys : List Keyed). x ∷ ys) (up_to_all time xs h.1))
 
 not_after_all : (time : ℕ) (last : Option ℕ) (chain : List Keyed) → IsNotAfter time last → IsChainAfter time last chain → Falls chain → filter (is_up_to time) chain ≡ chain
 not_after_all time last [] ends h falls = refl
@@ -149,72 +148,18 @@ back_ends last kept chain none h = h.whole ∙ ap (λ (ys : List Keyed). kept ++
     no_left [] e = refl
     no_left (x ∷ xs) e = cc
 
--- where a chain parts at one of its entries
-pub later_than_front : (kept left : List Keyed) → Falls (kept ++ left) → later_than (latest left) (kept ++ left) ≡ kept
-later_than_front kept [] falls = append-nil kept
-later_than_front kept (e ∷ earlier) falls =
-    let not_here : filter (is_after e.0.0) (e ∷ earlier) ≡ [] = rw (le-ltb e.0.0 e.0.0 (omega arith)) (before_not_after e.0.0 earlier (rest_falls kept (e ∷ earlier) falls).0) in
-    filter-append (is_after e.0.0) kept (e ∷ earlier)
-    ∙ ap (λ (xs : List Keyed). xs ++ filter (is_after e.0.0) (e ∷ earlier)) (after_is_after e.0.0 kept (front_is_after kept e earlier falls))
-    ∙ ap (λ (ys : List Keyed). kept ++ ys) not_here ∙ append-nil kept
-
--- it parts at each time of an entry
-pub record Parts (last : Option ℕ) (chain : List Keyed) : Type 0 where
-  pub kept : List Keyed
-  pub left : List Keyed
-  pub whole : chain ≡ kept ++ left
-  pub first : last ≡ latest left
-
-parts_more : (last : Option ℕ) (e : Keyed) (chain : List Keyed) → Parts last chain → Parts last (e ∷ chain)
-parts_more last e chain p = record { kept = e ∷ p.kept; left = p.left; whole = ap (λ (xs : List Keyed). e ∷ xs) p.whole; first = p.first }
-
-pub parts_at : (last : Option ℕ) (chain : List Keyed) → IsTimeOf last chain → Parts last chain
-parts_at None chain h = record { kept = chain; left = []; whole = sym (append-nil chain); first = refl }
-parts_at (Some time) [] h = cc
-parts_at (Some time) (e ∷ earlier) h = elim (cases_eq e.0.0 time) [
-  | inl same ↦ record { kept = []; left = e ∷ earlier; whole = refl; first = ap (λ (t : ℕ). Some t) (sym same) }
-  | inr other ↦ parts_more (Some time) e earlier (parts_at (Some time) earlier (rw (ne_eqb e.0.0 time other) at h))
-]
-
-pub back_starts : (last : Option ℕ) (chain : List Keyed) → IsChain chain → IsTimeOf last chain → Back last (later_than last chain) chain
-back_starts last chain h there =
+pub back_starts : (last : Option ℕ) (chain : List Keyed) → Falls chain → IsChain (back_from last chain) → IsTimeOf last chain → Back last (later_than last chain) chain
+back_starts last chain falls h there =
     let p = parts_at last chain there in
-    let falls = chain_falls chain h in
-    let kept_is : later_than last chain ≡ p.kept =
-    ap (λ (l : Option ℕ). later_than l chain) p.first ∙ ap (later_than (latest p.left)) p.whole ∙ later_than_front p.kept p.left (subst Falls p.whole falls) in
-    subst (λ (k : List Keyed). Back last k chain) (sym kept_is) (record {
-      left = p.left;
-      whole = p.whole;
-      falls = falls;
-      linked = rest_is_chain p.kept p.left (subst IsChain p.whole h);
-      first = p.first;
-    })
+    subst (λ (k : List Keyed). Back last k chain) (sym (kept_is_later last chain falls p))
+    (record { left = p.left; whole = p.whole; falls = falls; linked = subst IsChain (left_is last chain falls p) h; first = p.first })
 
 -- ---- the latest entries are kept
 
--- the first entries that stay, and then the others
-pub stayed_whole : (stay : Stay) (chain : List Keyed) → chain ≡ first_staying stay chain ++ after_staying stay chain
-stayed_whole stay [] = refl
-stayed_whole stay (e ∷ earlier) = elim (cases_Bool (stays stay (transaction_of e))) [
-  | inl stays_here ↦ rw stays_here (ap (λ (xs : List Keyed). e ∷ xs) (stayed_whole stay earlier))
-  | inr goes ↦ rw goes refl
-]
-
-front_is_time : (kept left : List Keyed) → Falls (kept ++ left) → IsTimeOf (latest left) (kept ++ left)
-front_is_time kept [] falls = tt
-front_is_time kept (e ∷ earlier) falls = ap is_some (entry_here kept e earlier falls)
-
-pub rest_is_time : (stay : Stay) (chain : List Keyed) (rest : Option ℕ) → IsChain chain → rest ≡ latest (after_staying stay chain) → IsTimeOf rest chain
-rest_is_time stay chain rest h is =
-    let whole = stayed_whole stay chain in
-    let falls : Falls (first_staying stay chain ++ after_staying stay chain) = subst Falls whole (chain_falls chain h) in
-    subst (λ (r : Option ℕ). IsTimeOf r chain) (sym is) (subst (IsTimeOf (latest (after_staying stay chain))) (sym whole) (front_is_time (first_staying stay chain) (after_staying stay chain) falls))
-
-pub kept_is : (stay : Stay) (chain : List Keyed) (rest : Option ℕ) → IsChain chain → rest ≡ latest (after_staying stay chain) → later_than rest chain ≡ first_staying stay chain
-kept_is stay chain rest h is =
-    let whole = stayed_whole stay chain in
-    let falls : Falls (first_staying stay chain ++ after_staying stay chain) = subst Falls whole (chain_falls chain h) in
-    ap (λ (r : Option ℕ). later_than r chain) is ∙ ap (later_than (latest (after_staying stay chain))) whole ∙ later_than_front (first_staying stay chain) (after_staying stay chain) falls
+last_before : (high time : ℕ) (xs : List Keyed) → AllBefore high xs → earliest xs ≡ Some time → time < high
+last_before high time [] h last = cc
+last_before high time (x ∷ []) h last = let some_same : Some x.0.0 ≡ Some time = last in let same : x.0.0 ≡ time = cc in omega (arith, h.0)
+last_before high time (x ∷ y ∷ xs) h last = last_before high time (y ∷ xs) h.1 last
 
 -- a front part of a chain, of which the last entry has none before it
 ended_is_chain : (time : ℕ) (xs ys : List Keyed) → IsChain (xs ++ ys) → Falls (xs ++ ys) → earliest xs ≡ Some time → IsChain (map (with_none_before time) xs) × (latest (map (with_none_before time) xs) ≡ latest xs)
@@ -231,11 +176,6 @@ ended_is_chain time (x ∷ y ∷ xs) ys h falls last =
     parts_before : (time : ℕ) (xs ys : List Keyed) → AllBefore time (xs ++ ys) → AllBefore time xs
     parts_before time [] ys h = tt
     parts_before time (x ∷ xs) ys h = (h.0, parts_before time xs ys h.1)
-
-    last_before : (high time : ℕ) (xs : List Keyed) → AllBefore high xs → earliest xs ≡ Some time → time < high
-    last_before high time [] h last = cc
-    last_before high time (x ∷ []) h last = let some_same : Some x.0.0 ≡ Some time = last in let same : x.0.0 ≡ time = cc in omega (arith, h.0)
-    last_before high time (x ∷ y ∷ xs) h last = last_before high time (y ∷ xs) h.1 last
 
 rising_ended : (time : ℕ) (xs : List Keyed) → rising (map (with_none_before time) xs) ≡ rising xs
 rising_ended time [] = refl
@@ -266,12 +206,49 @@ last_staying_none stay [] x h = rw h refl
 last_staying_none stay (y ∷ xs) x h =
     let more : all_stay stay (y ∷ xs ++ x ∷ []) ≡ false = all_stay_more stay (y ∷ xs) x false h in rw more (last_staying_none stay xs x h)
 
-rising_staying : (stay : Stay) (chain : List Keyed) → rising (first_staying stay chain) ≡ last_staying stay (rising chain)
+pub rising_staying : (stay : Stay) (chain : List Keyed) → rising (first_staying stay chain) ≡ last_staying stay (rising chain)
 rising_staying stay [] = refl
 rising_staying stay (e ∷ earlier) = elim (cases_Bool (stays stay (transaction_of e))) [
   | inl stays_here ↦ rw stays_here (ap (λ (xs : List Transaction). xs ++ transaction_of e ∷ []) (rising_staying stay earlier) ∙ sym (last_staying_more stay (rising earlier) (transaction_of e) stays_here))
   | inr goes ↦ rw goes (sym (last_staying_none stay (rising earlier) (transaction_of e) goes))
 ]
+
+-- ---- the last of the entries that are kept has none before it
+
+abbrev pub ended_at : Option ℕ → List Keyed → List Keyed
+ended_at time chain = option_map_or (λ t. map (with_none_before t) chain) time chain
+
+-- a front part of a chain is one, where the last entry of it has none before it as soon as others come before it
+pub record Ended (time : Option ℕ) (keeps : List Keyed) : Type 0 where
+  pub chain : IsChain (ended_at time keeps)
+  pub starts : latest (ended_at time keeps) ≡ latest keeps
+  pub pending : rising (ended_at time keeps) ≡ rising keeps
+
+pub some_earliest : (x : Keyed) (xs : List Keyed) → (time : ℕ) × (earliest (x ∷ xs) ≡ Some time)
+some_earliest x [] = (x.0.0, refl)
+some_earliest x (y ∷ xs) = some_earliest y xs
+
+pub ended : (time : Option ℕ) (keeps goes : List Keyed) → IsChain (keeps ++ goes) → time ≡ option_and (latest goes) (earliest keeps) → Ended time keeps
+ended time keeps [] h is =
+    subst (λ (t : Option ℕ). Ended t keeps) (sym is) (record { chain = subst IsChain (append-nil keeps) h; starts = refl; pending = refl })
+ended time [] (g ∷ goes) h is = subst (λ (t : Option ℕ). Ended t []) (sym is) (record { chain = tt; starts = refl; pending = refl })
+ended time (x ∷ keeps) (g ∷ goes) h is =
+    let last = some_earliest x keeps in
+    let both = ended_is_chain last.0 (x ∷ keeps) (g ∷ goes) h (chain_falls (x ∷ keeps ++ g ∷ goes) h) last.1 in
+    subst (λ (t : Option ℕ). Ended t (x ∷ keeps)) (sym (is ∙ last.1)) (record { chain = both.0; starts = both.1; pending = rising_ended last.0 (x ∷ keeps) })
+
+-- a later entry is not changed by that
+pub ended_behind : (time : Option ℕ) (new : Keyed) (keeps goes : List Keyed) → AllBefore new.0.0 keeps → time ≡ option_and (latest goes) (earliest keeps)
+    → ended_at time (new ∷ keeps) ≡ new ∷ ended_at time keeps
+ended_behind time new keeps [] h is = subst (λ (t : Option ℕ). ended_at t (new ∷ keeps) ≡ new ∷ ended_at t keeps) (sym is) refl
+ended_behind time new [] (g ∷ goes) h is = subst (λ (t : Option ℕ). ended_at t (new ∷ []) ≡ new ∷ ended_at t []) (sym is) refl
+ended_behind time new (x ∷ keeps) (g ∷ goes) h is =
+    let last = some_earliest x keeps in
+    let less = last_before new.0.0 last.0 (x ∷ keeps) h last.1 in
+    let same : with_none_before last.0 new ≡ new = rw (ne_eqb new.0.0 last.0 (λ at_last. omega arith)) refl in
+    subst (λ (t : Option ℕ). ended_at t (new ∷ x ∷ keeps) ≡ new ∷ ended_at t (x ∷ keeps)) (sym (is ∙ last.1)) (ap (λ (e : Keyed). e ∷ map (with_none_before last.0) (x ∷ keeps)) same)
+
+-- ---- the first entry of the queue leaves
 
 -- what is left where the latest entries were kept, of which the last one is at a time that may be missing
 pub record Kept (stay : Stay) (last : Option ℕ) (old new : List Keyed) : Type 0 where
@@ -279,38 +256,49 @@ pub record Kept (stay : Stay) (last : Option ℕ) (old new : List Keyed) : Type 
   pub starts : last ≡ latest new
   pub stays : rising new ≡ last_staying stay (rising old)
 
-first_of_front : (xs ys : List Keyed) (time : ℕ) → earliest xs ≡ Some time → latest (xs ++ ys) ≡ latest xs
-first_of_front [] ys time h = cc
-first_of_front (x ∷ xs) ys time h = refl
+front_stays : (e : Keyed) (xs : List Keyed) → AllAfter e.0.0 xs → first_staying (Later e.0.0) (xs ++ e ∷ []) ≡ xs
+front_stays e [] h = rw (le-ltb e.0.0 e.0.0 (omega arith)) refl
+front_stays e (x ∷ xs) h = rw (lt-ltb e.0.0 x.0.0 h.0) (ap (λ (ys : List Keyed). x ∷ ys) (front_stays e xs h.1))
 
-pub kept_some : (stay : Stay) (last : Option ℕ) (old mid new : List Keyed) (time : ℕ) → IsChain old → last ≡ latest old → Some time ≡ earliest (first_staying stay old)
-    → mid ≡ first_staying stay old → new ≡ map (with_none_before time) mid → Kept stay last old new
-kept_some stay last old mid new time h is kept mid_is new_is =
-    let whole = stayed_whole stay old in
-    let front = first_staying stay old in
-    let here : IsChain (front ++ after_staying stay old) = subst IsChain whole h in
-    let ended = ended_is_chain time front (after_staying stay old) here (chain_falls (front ++ after_staying stay old) here) (sym kept) in
-    let new_is_ended : new ≡ map (with_none_before time) front = new_is ∙ ap (map (with_none_before time)) mid_is in
-    subst (λ (c : List Keyed). Kept stay last old c) (sym new_is_ended) (record {
-      chain = ended.0;
-      starts = is ∙ ap latest whole ∙ first_of_front front (after_staying stay old) time (sym kept) ∙ sym ended.1;
-      stays = rising_ended time front ∙ rising_staying stay old;
+-- the last one of the entries that are kept, if any, is the last one of all
+pub last_is_kept : (kept last : Option ℕ) (keeps goes : List Keyed) → kept ≡ earliest keeps → last ≡ latest (keeps ++ goes) → option_and kept last ≡ latest keeps
+last_is_kept kept last [] goes is_kept is_last = ap (λ (k : Option ℕ). option_and k last) is_kept
+last_is_kept kept last (x ∷ keeps) goes is_kept is_last = ap (λ (k : Option ℕ). option_and k last) (is_kept ∙ (some_earliest x keeps).1) ∙ is_last
+
+pub first_leaves : (time : ℕ) (last kept : Option ℕ) (e : Keyed) (old mid new : List Keyed) → e.0.0 ≡ time → IsChain old → last ≡ latest old → old ≡ mid ++ e ∷ []
+    → kept ≡ earliest (first_staying (Later time) old) → new ≡ ended_at kept mid → Kept (Later time) (option_and kept last) old new
+first_leaves time last kept e old mid new at_time h is_last parts is_kept is_new =
+    let here : IsChain (mid ++ e ∷ []) = subst IsChain parts h in
+    let stay_here : first_staying (Later time) old ≡ mid =
+    ap (first_staying (Later time)) parts ∙ ap (λ (t : ℕ). first_staying (Later t) (mid ++ e ∷ [])) (sym at_time)
+    ∙ front_stays e mid (front_is_after mid e [] (chain_falls (mid ++ e ∷ []) here)) in
+    let kept_is : kept ≡ earliest mid = is_kept ∙ ap earliest stay_here in
+    let end = ended kept mid (e ∷ []) here kept_is in
+    subst (λ (c : List Keyed). Kept (Later time) (option_and kept last) old c) (sym is_new) (record {
+      chain = end.chain;
+      starts = last_is_kept kept last mid (e ∷ []) kept_is (is_last ∙ ap latest parts) ∙ sym end.starts;
+      stays = end.pending ∙ ap rising (sym stay_here) ∙ rising_staying (Later time) old;
     })
 
-pub kept_none : (stay : Stay) (old new : List Keyed) → None ≡ earliest (first_staying stay old) → new ≡ first_staying stay old → Kept stay None old new
-kept_none stay old new none new_is =
-    let empty : first_staying stay old ≡ [] = no_front (first_staying stay old) none in
-    subst (λ (c : List Keyed). Kept stay None old c) (sym (new_is ∙ empty)) (record {
-      chain = tt;
-      starts = refl;
-      stays = ap rising (sym empty) ∙ rising_staying stay old;
-    })
-  where
-    no_front : (xs : List Keyed) → None ≡ earliest xs → xs ≡ []
-    no_front [] h = refl
-    no_front (x ∷ []) h = cc
-    no_front (x ∷ y ∷ xs) h = absurd (some_front y xs h)
-      where
-        some_front : (y : Keyed) (xs : List Keyed) → None ≡ earliest (y ∷ xs) → ⊥
-        some_front y [] h = cc
-        some_front y (x ∷ xs) h = some_front x xs h
+-- the entry that leaves is the last one of its driver's chain
+pub record Popped (time driver : ℕ) (old new : List Keyed) : Type 0 where
+  pub entry : Keyed
+  pub at_time : entry.0.0 ≡ time
+  pub parts : chain_of driver old ≡ chain_of driver new ++ entry ∷ []
+
+popped_is : (time driver : ℕ) (e : Keyed) (old new : List Keyed) → e.0.0 ≡ time → e.0.1 ≡ driver → old ≡ e ∷ new → Popped time driver old new
+popped_is time driver e old new at_time mine parts = record {
+  entry = e;
+  at_time = at_time;
+  parts = ap (chain_of driver) parts ∙ ap (λ (ys : List Keyed). chain_of driver new ++ ys) (only_mine driver e mine);
+}
+
+pub popped : (time driver : ℕ) (old new : List Keyed) (result : Option Keyed) → slice_get (keys_of old) 0 ≡ Some (time, driver) → (IsSome result ↔ (0 < length old)) → IfSome result (λ p. old ≡ p ∷ new)
+    → Popped time driver old new
+popped time driver [] new result first some removal = cc
+popped time driver (e ∷ old) new None first some removal = let there : IsSome {T = Keyed} None = some.1 (omega arith) in cc
+popped time driver (e ∷ old) new (Some p) first some removal =
+    let is_key : e.0 ≡ (time, driver) = cc in
+    let same : e ≡ p = cc in
+    let key : p.0 ≡ (time, driver) = ap (λ (x : Keyed). x.0) (sym same) ∙ is_key in
+    popped_is time driver p (e ∷ old) new (ap (λ (k : Key). k.0) key) (ap (λ (k : Key). k.1) key) removal

@@ -1,10 +1,10 @@
 -- A walk back from the last entry of a driver.
 use Rattle.std.proofs.Common.{◌≡◌, ℕ, ◌+◌, ◌<◌, Bool, true, false, cond, List, [], ◌∷◌, ◌++◌, Option, Some, None, refl, sym, ap, subst, ◌∙◌, append_assoc, arith}
-use Rattle.std.proofs.lemmas.Bool.{eq-eqb}
 use Rattle.vital_agenda.specs.declared.entry.Entry.{Entry}
 use Rattle.vital_agenda.specs.declared.stay.Stay.{Stay}
-use Rattle.vital_agenda.specs.Queues.{Keyed, latest, earliest, ComesBefore, IsChain, Falls, entry_of, entry_if, entry_staying, stays, transaction_of, first_staying, after_staying}
-use Rattle.vital_agenda.proofs.Chains.{front_is_after, none_after, entry_append_none, chain_falls}
+use Rattle.vital_agenda.specs.Queues.{Keyed, latest, earliest, ComesBefore, IsChain, IsTimeOf, Falls, entry_if, entry_staying, stays, transaction_of, first_staying, after_staying}
+use Rattle.vital_agenda.proofs.Chains.{chain_falls}
+use Rattle.vital_agenda.proofs.Parts.{back_from, entry_here, rest_is_chain, parts_at, left_is}
 
 -- one more than a time that may be missing, or 0
 abbrev pub room_of : Option ℕ → ℕ
@@ -16,7 +16,7 @@ abbrev pub AllStay : Stay → List Keyed → Type 0
 AllStay stay [] = Unit {0}
 AllStay stay (e ∷ es) = (stays stay (transaction_of e) ≡ true) × AllStay stay es
 
--- a walk has passed some entries of a chain, which stay, and the others are left
+-- a walk has passed some entries of those from its start back, which stay, and the others are left
 pub record Walk (stay : Stay) (chain : List Keyed) (kept rest : Option ℕ) : Type 0 where
   pub passed : List Keyed
   pub left : List Keyed
@@ -25,8 +25,10 @@ pub record Walk (stay : Stay) (chain : List Keyed) (kept rest : Option ℕ) : Ty
   pub last_passed : kept ≡ earliest passed
   pub first_left : rest ≡ latest left
 
-pub walk_starts : (stay : Stay) (chain : List Keyed) (last : Option ℕ) → last ≡ latest chain → Walk stay chain None last
-walk_starts stay chain last h = record { passed = []; left = chain; whole = refl; all_stay = tt; last_passed = refl; first_left = h }
+pub walk_starts : (stay : Stay) (last : Option ℕ) (chain : List Keyed) → IsChain chain → IsTimeOf last chain → Walk stay (back_from last chain) None last
+walk_starts stay last chain h there =
+    let p = parts_at last chain there in
+    record { passed = []; left = back_from last chain; whole = refl; all_stay = tt; last_passed = refl; first_left = p.first ∙ ap latest (sym (left_is last chain (chain_falls chain h) p)) }
 
 earliest_more : (xs : List Keyed) (e : Keyed) → earliest (xs ++ e ∷ []) ≡ Some e.0.0
 earliest_more [] e = refl
@@ -36,15 +38,6 @@ earliest_more (x ∷ y ∷ xs) e = earliest_more (y ∷ xs) e
 stay_more : (stay : Stay) (xs : List Keyed) (e : Keyed) → AllStay stay xs → stays stay (transaction_of e) ≡ true → AllStay stay (xs ++ e ∷ [])
 stay_more stay [] e h k = (k, tt)
 stay_more stay (x ∷ xs) e h k = (h.0, stay_more stay xs e h.1 k)
-
-pub rest_is_chain : (xs ys : List Keyed) → IsChain (xs ++ ys) → IsChain ys
-rest_is_chain [] ys h = h
-rest_is_chain (x ∷ xs) ys h = rest_is_chain xs ys h.2
-
--- the entry at the time of one of a chain is that one
-pub entry_here : (passed : List Keyed) (e : Keyed) (earlier : List Keyed) → Falls (passed ++ e ∷ earlier) → entry_of e.0.0 (passed ++ e ∷ earlier) ≡ Some e.1
-entry_here passed e earlier falls =
-    entry_append_none e.0.0 passed (e ∷ earlier) (none_after e.0.0 passed (front_is_after passed e earlier falls)) ∙ rw (eq-eqb e.0.0 e.0.0 refl) refl
 
 -- what is found at the first entry that is left
 found_left : (stay : Stay) (passed : List Keyed) (e : Keyed) (earlier : List Keyed) → Falls (passed ++ e ∷ earlier)
@@ -68,23 +61,23 @@ pub record WalkStep (stay : Stay) (chain : List Keyed) (rest : Option ℕ) (entr
   pub next : Walk stay chain rest entry.before
   pub less : room_of entry.before < room_of rest
 
-step_at : (stay : Stay) (chain : List Keyed) (rest : Option ℕ) (entry : Entry) (passed left : List Keyed) → IsChain chain → chain ≡ passed ++ left → AllStay stay passed → rest ≡ latest left
-    → entry_staying stay chain rest ≡ Some entry → WalkStep stay chain rest entry
-step_at stay chain rest entry passed [] h whole all_stay first found =
+step_at : (stay : Stay) (chain back front : List Keyed) (rest : Option ℕ) (entry : Entry) (passed left : List Keyed) → IsChain chain → chain ≡ (front ++ passed) ++ left → back ≡ passed ++ left
+    → AllStay stay passed → rest ≡ latest left → entry_staying stay chain rest ≡ Some entry → WalkStep stay back rest entry
+step_at stay chain back front rest entry passed [] h whole parts all_stay first found =
     let no : None ≡ Some entry = subst (λ (r : Option ℕ). entry_staying stay chain r ≡ Some entry) first found in cc
-step_at stay chain rest entry passed (e ∷ earlier) h whole all_stay first found =
-    let h_here : IsChain (passed ++ e ∷ earlier) = subst IsChain whole h in
-    let falls = chain_falls (passed ++ e ∷ earlier) h_here in
-    let links = rest_is_chain passed (e ∷ earlier) h_here in
+step_at stay chain back front rest entry passed (e ∷ earlier) h whole parts all_stay first found =
+    let h_here : IsChain ((front ++ passed) ++ e ∷ earlier) = subst IsChain whole h in
+    let falls = chain_falls ((front ++ passed) ++ e ∷ earlier) h_here in
+    let links = rest_is_chain (front ++ passed) (e ∷ earlier) h_here in
     let found_first : entry_staying stay chain (Some e.0.0) ≡ Some entry = subst (λ (r : Option ℕ). entry_staying stay chain r ≡ Some entry) first found in
-    let found_here : entry_staying stay (passed ++ e ∷ earlier) (Some e.0.0) ≡ Some entry = subst (λ (c : List Keyed). entry_staying stay c (Some e.0.0) ≡ Some entry) whole found_first in
-    let both = some_from_cond (stays stay (transaction_of e)) e.1 entry (sym (found_left stay passed e earlier falls) ∙ found_here) in
+    let found_here : entry_staying stay ((front ++ passed) ++ e ∷ earlier) (Some e.0.0) ≡ Some entry = subst (λ (c : List Keyed). entry_staying stay c (Some e.0.0) ≡ Some entry) whole found_first in
+    let both = some_from_cond (stays stay (transaction_of e)) e.1 entry (sym (found_left stay (front ++ passed) e earlier falls) ∙ found_here) in
     let same_before : e.1.before ≡ entry.before = ap (λ (x : Entry). x.before) both.1 in
     record {
       next = record {
         passed = passed ++ e ∷ [];
         left = earlier;
-        whole = whole ∙ sym (append_assoc passed (e ∷ []) earlier);
+        whole = parts ∙ sym (append_assoc passed (e ∷ []) earlier);
         all_stay = stay_more stay passed e all_stay both.0;
         last_passed = first ∙ sym (earliest_more passed e);
         first_left = sym same_before ∙ links.0;
@@ -92,9 +85,18 @@ step_at stay chain rest entry passed (e ∷ earlier) h whole all_stay first foun
       less = subst (λ (b : Option ℕ). room_of b < room_of rest) same_before (subst (λ (r : Option ℕ). room_of e.1.before < room_of r) (sym first) (before_is_less e.1.before e.0.0 links.1));
     }
 
-pub walk_goes_on : (stay : Stay) (chain : List Keyed) (kept rest : Option ℕ) (entry : Entry) → IsChain chain → Walk stay chain kept rest
-    → entry_staying stay chain rest ≡ Some entry → WalkStep stay chain rest entry
-walk_goes_on stay chain kept rest entry h walk found = step_at stay chain rest entry walk.passed walk.left h walk.whole walk.all_stay walk.first_left found
+-- the chain in three parts: those from which the walk did not start, those that it passed, and those that are left
+whole_in_three : (last : Option ℕ) (chain passed left : List Keyed) → IsChain chain → (there : IsTimeOf last chain) → back_from last chain ≡ passed ++ left
+    → chain ≡ ((parts_at last chain there).kept ++ passed) ++ left
+whole_in_three last chain passed left h there parts =
+    let p = parts_at last chain there in
+    p.whole ∙ ap (λ (xs : List Keyed). p.kept ++ xs) (sym (left_is last chain (chain_falls chain h) p) ∙ parts) ∙ sym (append_assoc p.kept passed left)
+
+pub walk_goes_on : (stay : Stay) (last : Option ℕ) (chain : List Keyed) (kept rest : Option ℕ) (entry : Entry) → IsChain chain → IsTimeOf last chain → Walk stay (back_from last chain) kept rest
+    → entry_staying stay chain rest ≡ Some entry → WalkStep stay (back_from last chain) rest entry
+walk_goes_on stay last chain kept rest entry h there walk found =
+    step_at stay chain (back_from last chain) (parts_at last chain there).kept rest entry walk.passed walk.left h (whole_in_three last chain walk.passed walk.left h there walk.whole) walk.whole
+    walk.all_stay walk.first_left found
 
 -- where the first that is left does not stay, the passed ones are the first that stay
 pub record Halted (stay : Stay) (chain passed left : List Keyed) : Type 0 where
@@ -107,21 +109,28 @@ halted_past stay (x ∷ passed) left h none after =
     let rest = halted_past stay passed left h.1 none after in
     record { first = rw h.0 (ap (λ (xs : List Keyed). x ∷ xs) rest.first); after = rw h.0 rest.after }
 
-halts_at : (stay : Stay) (chain : List Keyed) (rest : Option ℕ) (passed left : List Keyed) → IsChain chain → chain ≡ passed ++ left → AllStay stay passed → rest ≡ latest left
-    → entry_staying stay chain rest ≡ None → Halted stay chain passed left
-halts_at stay chain rest passed [] h whole all_stay first found =
-    subst (λ (c : List Keyed). Halted stay c passed []) (sym whole) (halted_past stay passed [] all_stay refl refl)
-halts_at stay chain rest passed (e ∷ earlier) h whole all_stay first found =
-    let h_here : IsChain (passed ++ e ∷ earlier) = subst IsChain whole h in
+halts_at : (stay : Stay) (chain back front : List Keyed) (rest : Option ℕ) (passed left : List Keyed) → IsChain chain → chain ≡ (front ++ passed) ++ left → back ≡ passed ++ left
+    → AllStay stay passed → rest ≡ latest left → entry_staying stay chain rest ≡ None → Halted stay back passed left
+halts_at stay chain back front rest passed [] h whole parts all_stay first found =
+    subst (λ (c : List Keyed). Halted stay c passed []) (sym parts) (halted_past stay passed [] all_stay refl refl)
+halts_at stay chain back front rest passed (e ∷ earlier) h whole parts all_stay first found =
+    let h_here : IsChain ((front ++ passed) ++ e ∷ earlier) = subst IsChain whole h in
     let found_first : entry_staying stay chain (Some e.0.0) ≡ None = subst (λ (r : Option ℕ). entry_staying stay chain r ≡ None) first found in
-    let found_here : entry_staying stay (passed ++ e ∷ earlier) (Some e.0.0) ≡ None = subst (λ (c : List Keyed). entry_staying stay c (Some e.0.0) ≡ None) whole found_first in
-    let goes : stays stay (transaction_of e) ≡ false = none_from_cond (stays stay (transaction_of e)) e.1 (sym (found_left stay passed e earlier (chain_falls (passed ++ e ∷ earlier) h_here)) ∙ found_here) in
-    subst (λ (c : List Keyed). Halted stay c passed (e ∷ earlier)) (sym whole) (halted_past stay passed (e ∷ earlier) all_stay (rw goes refl) (rw goes refl))
+    let found_here : entry_staying stay ((front ++ passed) ++ e ∷ earlier) (Some e.0.0) ≡ None = subst (λ (c : List Keyed). entry_staying stay c (Some e.0.0) ≡ None) whole found_first in
+    let goes : stays stay (transaction_of e) ≡ false =
+    none_from_cond (stays stay (transaction_of e)) e.1 (sym (found_left stay (front ++ passed) e earlier (chain_falls ((front ++ passed) ++ e ∷ earlier) h_here)) ∙ found_here) in
+    subst (λ (c : List Keyed). Halted stay c passed (e ∷ earlier)) (sym parts) (halted_past stay passed (e ∷ earlier) all_stay (rw goes refl) (rw goes refl))
 
-pub kept_at_halt : (stay : Stay) (chain : List Keyed) (kept rest : Option ℕ) → IsChain chain → Walk stay chain kept rest → entry_staying stay chain rest ≡ None → kept ≡ earliest (first_staying stay chain)
-kept_at_halt stay chain kept rest h walk found =
-    walk.last_passed ∙ ap earliest (sym (halts_at stay chain rest walk.passed walk.left h walk.whole walk.all_stay walk.first_left found).first)
+halted : (stay : Stay) (last : Option ℕ) (chain : List Keyed) (kept rest : Option ℕ) → IsChain chain → IsTimeOf last chain → (walk : Walk stay (back_from last chain) kept rest)
+    → entry_staying stay chain rest ≡ None → Halted stay (back_from last chain) walk.passed walk.left
+halted stay last chain kept rest h there walk found =
+    halts_at stay chain (back_from last chain) (parts_at last chain there).kept rest walk.passed walk.left h (whole_in_three last chain walk.passed walk.left h there walk.whole) walk.whole
+    walk.all_stay walk.first_left found
 
-pub rest_at_halt : (stay : Stay) (chain : List Keyed) (kept rest : Option ℕ) → IsChain chain → Walk stay chain kept rest → entry_staying stay chain rest ≡ None → rest ≡ latest (after_staying stay chain)
-rest_at_halt stay chain kept rest h walk found =
-    walk.first_left ∙ ap latest (sym (halts_at stay chain rest walk.passed walk.left h walk.whole walk.all_stay walk.first_left found).after)
+pub kept_at_halt : (stay : Stay) (last : Option ℕ) (chain : List Keyed) (kept rest : Option ℕ) → IsChain chain → IsTimeOf last chain → Walk stay (back_from last chain) kept rest
+    → entry_staying stay chain rest ≡ None → kept ≡ earliest (first_staying stay (back_from last chain))
+kept_at_halt stay last chain kept rest h there walk found = walk.last_passed ∙ ap earliest (sym (halted stay last chain kept rest h there walk found).first)
+
+pub rest_at_halt : (stay : Stay) (last : Option ℕ) (chain : List Keyed) (kept rest : Option ℕ) → IsChain chain → IsTimeOf last chain → Walk stay (back_from last chain) kept rest
+    → entry_staying stay chain rest ≡ None → rest ≡ latest (after_staying stay (back_from last chain))
+rest_at_halt stay last chain kept rest h there walk found = walk.first_left ∙ ap latest (sym (halted stay last chain kept rest h there walk found).after)

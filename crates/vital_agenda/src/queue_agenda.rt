@@ -1,14 +1,13 @@
-ghost use Rattle.std.specs.Prelude.{◌≡◌, ◌∷◌, ◌<◌, ◌≤◌, [], length, None, Some, map, IsSome, IfSome, IfNone, OnOk, OnErr};
-ghost use Rattle.vital_agenda.specs.Driver.{with_new, next_time, advance};
-ghost use Rattle.vital_agenda.specs.Agendas.{IsAgenda, IsFirstDue, changed, due_at};
-ghost use Rattle.vital_agenda.specs.Queues.{last_staying, with_pending};
+ghost use Rattle.std.specs.Prelude.{◌≡◌, ◌∷◌, [], Some, map, IsSome, IfSome, IfNone};
+ghost use Rattle.vital_agenda.specs.Driver.{next_time, advance};
+ghost use Rattle.vital_agenda.specs.Agendas.{IsAgenda, due_at};
 
 use crate::agenda::Agenda;
 use crate::due::Due;
 use crate::entry::{Entry, Queue};
 use crate::stay::Stay;
-use crate::unlink::{keep_latest, put, unlink_after};
-use crate::walk::{first, walk};
+use crate::unlink::{make_first, put, unlink_after, unlink_back, unlink_first};
+use crate::walk::{first, walk, walk_before};
 use std::alloc::{AllocError, Global};
 use std::marker::Model;
 use vital_base::{Kind, Time};
@@ -54,10 +53,18 @@ impl Agenda for QueueAgenda {
         value: Level,
         delay: Time,
     ) -> Result<(), AllocError> {
-        self.send(driver, self.now + delay, value)?;
-        if let Kind::Inertial = kind {
-            self.keep(driver, Stay::Same(value));
-        }
+        let last = self.last[driver as usize];
+        let time = self.now + delay;
+        let reached = walk(&self.queue, driver, last, Stay::From(time)).rest;
+        let halt = walk_before(&self.queue, driver, reached, kind, value);
+        let before = halt.kept.and(reached);
+        // Nothing is unlinked before the insertion, which alone can want memory.
+        put(&mut self.queue, driver, time, Entry { value, before })?;
+        unlink_after(&mut self.queue, driver, last, time);
+        unlink_back(&mut self.queue, driver, halt.rest);
+        // Where nothing precedes what stays, its earliest entry has none before it already.
+        make_first(&mut self.queue, driver, halt.rest.and(halt.kept));
+        self.last[driver as usize] = Some(time);
         Ok(())
     }
 
@@ -86,38 +93,6 @@ impl Agenda for QueueAgenda {
 }
 
 impl QueueAgenda {
-    /// Assigns a value to a driver at a time by transport: what is pending at that time or after it is deleted. Where memory
-    /// runs out, all is as before.
-    fn send(&mut self, driver: u32, time: Time, value: Level) -> Result<(), AllocError>
-        requires there { driver < length self.old.drivers }
-        requires time { self.old.now ≤ time }
-        ensures ok { OnOk result (self.new ≡ record self.old {
-          drivers = changed driver (with_pending (λ pending. with_new pending time value)) self.old.drivers;
-        }) }
-        ensures err { OnErr result (self.new ≡ self.old) }
-        ensures was_valid { IsAgenda self.old }
-        ensures valid { IsAgenda self.new }
-    {
-        let last = self.last[driver as usize];
-        let before = walk(&self.queue, driver, last, Stay::From(time)).rest;
-        put(&mut self.queue, driver, time, Entry { value, before })?;
-        unlink_after(&mut self.queue, driver, last, time);
-        self.last[driver as usize] = Some(time);
-        Ok(())
-    }
-
-    /// Keeps what is pending of a driver from the last transaction back to the first that does not stay.
-    fn keep(&mut self, driver: u32, stay: Stay)
-        requires { driver < length self.old.drivers }
-        ensures kept { self.new ≡ record self.old {
-          drivers = changed driver (with_pending (last_staying stay)) self.old.drivers;
-        } }
-        ensures valid { IsAgenda self.new }
-    {
-        let last = self.last[driver as usize];
-        self.last[driver as usize] = keep_latest(&mut self.queue, driver, last, stay);
-    }
-
     /// Lets the next time be the present.
     fn begin(&mut self)
         requires { IsSome (next_time self.old.drivers) }
@@ -141,20 +116,13 @@ impl QueueAgenda {
         ensures none { IfNone result (due_at self.old.now self.old.drivers ≡ []) }
         ensures was_valid { IsAgenda self.old }
     {
-        let (driver, value) = self.first_due()?;
-        self.current[driver as usize] = value;
-        self.keep(driver, Stay::After(self.now));
-        Some(driver)
-    }
-
-    /// The first driver that has a transaction at the present time, and the transaction's value.
-    fn first_due(&self) -> Option<(u32, Level)>
-        ensures first { let agenda = self.entry.now in IfSome result (λ due. IsFirstDue agenda.now due.0 due.1 agenda.drivers) }
-        ensures none { let agenda = self.entry.now in IfNone result (due_at agenda.now agenda.drivers ≡ []) }
-        ensures valid { IsAgenda self.entry.now }
-    {
         match first(&self.queue) {
-            Some(((time, driver), entry)) if time == self.now => Some((driver, entry.value)),
+            Some(((time, driver), entry)) if time == self.now => {
+                self.current[driver as usize] = entry.value;
+                let last = self.last[driver as usize];
+                self.last[driver as usize] = unlink_first(&mut self.queue, driver, time, last);
+                Some(driver)
+            }
             _ => None,
         }
     }

@@ -1,4 +1,5 @@
-ghost use Rattle.std.specs.Prelude.{◌≡◌};
+ghost use Rattle.std.specs.Prelude.{◌≡◌, true, false};
+ghost use Rattle.vital_logic.specs.declared.level.Level.{Level};
 ghost use Rattle.vital_agenda.specs.Queues.{stays};
 
 use crate::transaction::Transaction;
@@ -17,6 +18,18 @@ pub(crate) enum Stay {
 }
 
 impl Stay {
+    /// Is there a value with which a transaction at this time stays?
+    pub(crate) fn allows(self, time: Time) -> bool
+        ensures some { result ≡ true → (value : Level) × (stays self (record { time = time; value = value }) ≡ true) }
+        ensures none { result ≡ false → (value : Level) → stays self (record { time = time; value = value }) ≡ false }
+    {
+        match self {
+            Stay::After(after) => after < time,
+            Stay::From(from) => from <= time,
+            Stay::Same(_) => true,
+        }
+    }
+
     /// Does this transaction stay?
     pub(crate) fn holds(self, transaction: Transaction) -> bool
         ensures { result ≡ stays self transaction }

@@ -1,7 +1,9 @@
 //! Linking and unlinking entries of one driver.
 
-ghost use Rattle.std.specs.Prelude.{◌≡◌, ◌∷◌, ◌++◌, None, Some, nat_lt, filter, map, OnOk, OnErr, if◌then◌else◌};
-ghost use Rattle.std.specs.Option.{option_and_then};
+ghost use Rattle.std.specs.Prelude.{◌≡◌, [], ◌∷◌, ◌++◌, None, Some, nat_lt, filter, map, slice_get, OnOk, OnErr, if◌then◌else◌};
+ghost use Rattle.std.specs.Map.{keys_of};
+ghost use Rattle.std.specs.Option.{option_and_then, option_map_or};
+ghost use Rattle.vital_agenda.specs.declared.stay.Stay.TheVariants.{After};
 ghost use Rattle.vital_agenda.specs.Queues.{IsChain, IsChainAfter, Falls, IsTimeOf, KeepsOthers, chain_of, latest, entry_of, is_after, is_before, is_up_to, later_than, without, with_none_before, rising, last_staying};
 
 use crate::entry::{Entry, Queue};
@@ -63,8 +65,9 @@ fn later(last: Option<Time>, time: Time) -> Option<Time>
 }
 
 /// Unlinks a driver's entry at a time that may be missing, and all that precede it.
-fn unlink_back(queue: &mut Queue, driver: u32, last: Option<Time>)
-    requires chain { IsChain (chain_of driver queue.old.entries) }
+pub(crate) fn unlink_back(queue: &mut Queue, driver: u32, last: Option<Time>)
+    requires falls { Falls (chain_of driver queue.old.entries) }
+    requires chain { IsChain (option_map_or (λ time. filter (is_up_to time) (chain_of driver queue.old.entries)) last []) }
     requires there { IsTimeOf last (chain_of driver queue.old.entries) }
     ensures chain { chain_of driver queue.new.entries ≡ later_than last (chain_of driver queue.old.entries) }
     ensures others { KeepsOthers driver queue.old.entries queue.new.entries }
@@ -75,38 +78,38 @@ fn unlink_back(queue: &mut Queue, driver: u32, last: Option<Time>)
     }
 }
 
-/// Keeps a driver's entries from the last one back to the first that does not stay, and unlinks that one and all that
-/// precede it. The answer is the time of the last one then, or none.
-pub(crate) fn keep_latest(
+/// Unlinks the first entry of the queue, which is a driver's at a time, and takes its key out. The answer is the time of
+/// the driver's last entry then, or none.
+pub(crate) fn unlink_first(
     queue: &mut Queue,
     driver: u32,
+    time: Time,
     last: Option<Time>,
-    stay: Stay,
 ) -> Option<Time>
+    requires first { slice_get (keys_of queue.old.entries) 0 ≡ Some (time, driver) }
     requires chain { IsChain (chain_of driver queue.old.entries) }
     requires last { last ≡ latest (chain_of driver queue.old.entries) }
     ensures chain { IsChain (chain_of driver queue.new.entries) }
     ensures last { result ≡ latest (chain_of driver queue.new.entries) }
-    ensures stays { rising (chain_of driver queue.new.entries) ≡ last_staying stay (rising (chain_of driver queue.old.entries)) }
+    ensures stays { rising (chain_of driver queue.new.entries) ≡ last_staying (After time) (rising (chain_of driver queue.old.entries)) }
     ensures others { KeepsOthers driver queue.old.entries queue.new.entries }
 {
-    let halt = walk(queue, driver, last, stay);
-    unlink_back(queue, driver, halt.rest);
-    match halt.kept {
-        Some(time) => {
-            make_first(queue, driver, time);
-            last
-        }
-        None => None,
-    }
+    let kept = walk(queue, driver, last, Stay::After(time)).kept;
+    let _ = queue.pop_first();
+    make_first(queue, driver, kept);
+    kept.and(last)
 }
 
-/// Lets no entry precede the one of a driver at a time.
-fn make_first(queue: &mut Queue, driver: u32, time: Time)
+/// Lets no entry precede the one of a driver at a time that may be missing.
+pub(crate) fn make_first(queue: &mut Queue, driver: u32, time: Option<Time>)
     requires { Falls (chain_of driver queue.old.entries) }
-    ensures chain { chain_of driver queue.new.entries ≡ map (with_none_before time) (chain_of driver queue.old.entries) }
+    ensures chain { let old = chain_of driver queue.old.entries in
+        chain_of driver queue.new.entries ≡ option_map_or (λ time. map (with_none_before time) old) time old }
     ensures others { KeepsOthers driver queue.old.entries queue.new.entries }
 {
+    let Some(time) = time else {
+        return;
+    };
     if let Some(entry) = queue.get_mut(&(time, driver)) {
         entry.before = None;
     }

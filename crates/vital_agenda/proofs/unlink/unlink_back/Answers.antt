@@ -5,7 +5,7 @@ use Rattle.vital_agenda.proofs.unlink.unlink_back.Goals as goal
 
 pub loop-last-init : goal.loop-last-init
 loop-last-init c = record {
-  chain = back_starts c.args.last (chain_of c.args.driver c.args.queue.now.entries) c.requires.chain c.requires.there;
+  chain = back_starts c.args.last (chain_of c.args.driver c.args.queue.now.entries) c.requires.falls c.requires.chain c.requires.there;
   others = λ other apart. refl;
 }
 
