@@ -33,7 +33,7 @@ use Rattle.vital_netlist.specs.Nets.{signal_number, signals}
 use Rattle.vital_netlist.specs.DesignObjects.{driven_as, driven_at, objects_as, objects_at, objects_in}
 use Rattle.vital_netlist.proofs.ListLemmas.{StandsAt, all-stand, enumerated-at, first-stands, others-stand}
 use Rattle.vital_netlist.proofs.NumberLemmas.{same-number}
-use Rattle.vital_walk.proofs.Lists.{take-one}
+use Rattle.vital_nodes.proofs.Lists.{take-one}
 
 -- ---- what is driven is there
 

@@ -5,7 +5,7 @@ use Rattle.std.specs.List.{enumerate_from}
 use Rattle.std.proofs.lemmas.List.{length-map, length-take-le}
 use Rattle.vital_connections.specs.Objects.{Object, bits_of_all, lent, whole_bits}
 use Rattle.vital_connections.specs.declared.object.Object.{Object as Object'}
-use Rattle.vital_walk.proofs.Lists.{map-take}
+use Rattle.vital_nodes.proofs.Lists.{map-take}
 
 -- ---- tests
 

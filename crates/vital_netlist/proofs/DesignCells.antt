@@ -12,7 +12,7 @@ use Rattle.vital_instances.specs.Units.{Unit, unit_at}
 use Rattle.vital_nodes.specs.declared.unit.Role.{Role}
 use Rattle.vital_nodes.specs.declared.unit.Role.TheVariants.{Lib, Net}
 use Rattle.vital_nodes.specs.declared.unit.Units.{Units}
-use Rattle.vital_sound.specs.Sound.{IsSound}
+use Rattle.vital_typed_cells.specs.Sound.{IsSound}
 use Rattle.vital_typed_cells.specs.declared.typed_cell.TypedCell.{TypedCell}
 use Rattle.vital_netlist.proofs.Lists.{any-filter, any-map, each-filter, each-from-get, each-given, each-map, each-weaker, found-at, given-get, given-length, or-first, or-right}
 use Rattle.vital_netlist.proofs.UnitFacts.{Known, unit-there}

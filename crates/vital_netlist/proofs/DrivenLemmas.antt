@@ -4,7 +4,7 @@ use Rattle.std.proofs.lemmas.List.Elements.{filter_map-append}
 use Rattle.std.specs.Prelude.{Option, Result, Ok, Err, OnOk}
 use Rattle.std.specs.List.{filter_map, flat_map}
 use Rattle.vital_typed_cells.specs.declared.process.CellProcess.{CellProcess}
-use Rattle.vital_walk.proofs.Lists.{filter_map-seen, flat_map-one, turn-behind}
+use Rattle.vital_nodes.proofs.Lists.{filter_map-seen, flat_map-one, turn-behind}
 use Rattle.vital_netlist.specs.CellDrivers.{driven_by}
 
 pub on-both : {T E P Q R : Type 0} (r : Result T E) → (P → Q → R) → OnOk r P → OnOk r Q → OnOk r R

@@ -22,7 +22,7 @@ use Rattle.vital_netlist.specs.Nets.{signal_number}
 use Rattle.vital_netlist.specs.DesignObjects.{driven_as, driven_at, objects_at}
 use Rattle.vital_netlist.specs.Wiring.{driver_at, driver_of, drivers, single_bits, wires}
 use Rattle.vital_netlist.proofs.BitLemmas.{HaveSignals, in-step}
-use Rattle.vital_walk.proofs.Lists.{turn-behind}
+use Rattle.vital_nodes.proofs.Lists.{turn-behind}
 
 -- ---- the bit of a port or signal, by its number
 

@@ -48,3 +48,4 @@ pub mod PartLemmas
 pub mod CountLemmas
 pub mod PortLemmas
 pub mod DesignLemmas
+pub mod FewPorts

@@ -20,7 +20,7 @@ use Rattle.vital_structure.specs.Contents as content
 use Rattle.vital_structure.specs.Faults.{UnitFault, declares, fault_of, fault_of_signal, first_fault_behind, is_declared}
 use Rattle.vital_structure.specs.Shapes.{Shape, Scalar, shape_in, shape_of_port}
 use Rattle.vital_structure.specs.Signals.{SignalType, UnitSignal, default_in, port_signal, signal_of, signal_type, signal_with}
-use Rattle.vital_sound.proofs.Apart.{AreApart}
+use Rattle.vital_typed_cells.proofs.Apart.{AreApart}
 use Rattle.vital_netlist.proofs.Lists.{each-map, each-weaker}
 
 -- ---- one port or signal

@@ -15,7 +15,7 @@ use Rattle.vital_netlist.specs.Elaboration.{design_instance, design_signal, site
 use Rattle.vital_netlist.specs.declared.bit.Bit.{Bit}
 use Rattle.vital_netlist.specs.DesignObjects.{name_at}
 use Rattle.vital_netlist.proofs.NumberLemmas.{number-of-cell}
-use Rattle.vital_walk.proofs.Lists.{filter_map-one}
+use Rattle.vital_nodes.proofs.Lists.{filter_map-one}
 
 -- ---- one more
 

@@ -19,7 +19,7 @@ use Rattle.vital_netlist.specs.Bits.{bit, bits_of_instance, object_of}
 use Rattle.vital_netlist.specs.DesignObjects.{objects_at}
 use Rattle.vital_netlist.specs.Ports.{bits_as, bits_in, first_bits}
 use Rattle.vital_netlist.proofs.ListLemmas.{StandsAt, all-stand, first-stands, others-stand}
-use Rattle.vital_walk.proofs.Lists.{put-two}
+use Rattle.vital_nodes.proofs.Lists.{put-two}
 
 -- ---- one bit more
 

@@ -19,7 +19,7 @@ use Rattle.vital_nodes.specs.IdentifierNames.{IsIdentifierName}
 use Rattle.vital_nodes.specs.declared.expr.Direction.{Direction}
 use Rattle.vital_nodes.specs.declared.expr.Direction.TheVariants.{To, Downto}
 use Rattle.vital_structure.specs.Shapes.{Shape, Scalar, Vector, bits_of}
-use Rattle.vital_sound.proofs.Apart.{AreApart}
+use Rattle.vital_typed_cells.proofs.Apart.{AreApart}
 use Rattle.vital_netlist.proofs.Bits.{both-true}
 use Rattle.vital_netlist.proofs.Lists.{each-append, each-between, each-map, each-unmap}
 use Rattle.vital_netlist.proofs.UnitNames.{IsObjectFormed}

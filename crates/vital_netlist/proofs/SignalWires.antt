@@ -26,7 +26,7 @@ use Rattle.vital_netlist.specs.DesignObjects.{driven_as, driven_at, objects_at}
 use Rattle.vital_nodes.specs.declared.unit.Role.{Role}
 use Rattle.vital_nodes.specs.declared.unit.Role.TheVariants.{Lib, Net}
 use Rattle.vital_nodes.specs.declared.unit.Units.{Units}
-use Rattle.vital_sound.specs.Sound.{bit_count}
+use Rattle.vital_typed_cells.specs.Sound.{bit_count}
 use Rattle.vital_structure.specs.Shapes.{Shape, Scalar, bits_of}
 use Rattle.vital_typed_cells.specs.declared.typed_cell.TypedCell.{TypedCell}
 use Rattle.vital_netlist.proofs.Bits.{IsThere, of-instance}

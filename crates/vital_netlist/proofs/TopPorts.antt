@@ -25,7 +25,7 @@ use Rattle.vital_netlist.specs.DesignObjects.{objects_at}
 use Rattle.vital_nodes.specs.declared.decl.Mode.{Mode}
 use Rattle.vital_nodes.specs.declared.unit.Units.{Units}
 use Rattle.vital_structure.specs.Shapes.{bits_of}
-use Rattle.vital_sound.proofs.Apart.{distinct}
+use Rattle.vital_typed_cells.proofs.Apart.{distinct}
 use Rattle.vital_netlist.proofs.Lists.{each-below, each-enumerated, each-flat, each-get, each-left, each-map, each-numbered}
 use Rattle.vital_netlist.proofs.Nets.{within-get}
 use Rattle.vital_netlist.proofs.PortNames.{bits-apart, names-of}

@@ -36,9 +36,9 @@ use Rattle.vital_nodes.specs.declared.unit.Role.TheVariants.{Lib, Net}
 use Rattle.vital_nodes.specs.declared.unit.Units.{Units}
 use Rattle.vital_objects.specs.declared.package_value.PackageValue.{PackageValue}
 use Rattle.vital_objects.specs.declared.port.Port.{Port}
-use Rattle.vital_sound.specs.Sound.{IsSound}
-use Rattle.vital_sound.proofs.Apart.{AreApart}
-use Rattle.vital_sound.specs.TreeNames.{names_of_cell}
+use Rattle.vital_typed_cells.specs.Sound.{IsSound}
+use Rattle.vital_typed_cells.proofs.Apart.{AreApart}
+use Rattle.vital_typed_cells.specs.TreeNames.{names_of_cell}
 use Rattle.vital_structure.specs.Contents.{content_of_decl, content_of_object, content_of_port, contents, signal_content, signal_in, signals_in}
 use Rattle.vital_structure.specs.Signals.{UnitSignal, object_signal}
 use Rattle.vital_structure.specs.Statements.{statement_in, statement_of}

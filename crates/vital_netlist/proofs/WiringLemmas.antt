@@ -21,7 +21,7 @@ use Rattle.vital_netlist.proofs.BitLemmas.{HaveSignals, cell-bits, piece-signals
 use Rattle.vital_netlist.proofs.DriverLemmas.{cell-drivers, net-drivers}
 use Rattle.vital_netlist.proofs.ListLemmas.{enumerated-at}
 use Rattle.vital_netlist.proofs.NumberLemmas.{is_cell-numbered}
-use Rattle.vital_walk.proofs.Lists.{filter_map-one, flat_map-one}
+use Rattle.vital_nodes.proofs.Lists.{filter_map-one, flat_map-one}
 
 -- ---- one port or signal more
 

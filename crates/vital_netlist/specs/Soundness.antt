@@ -6,7 +6,7 @@ use Rattle.std.specs.Str.{bytes_eq}
 use Rattle.vital_logic.specs.declared.level.Level.{Level}
 use Rattle.vital_logic.specs.Levels.{byte_of}
 use Rattle.vital_nodes.specs.IdentifierNames.{IsIdentifierName}
-use Rattle.vital_sound.specs.Sound.{IsSound, bit_count}
+use Rattle.vital_typed_cells.specs.Sound.{IsSound, bit_count}
 use Rattle.vital_typed_cells.specs.declared.typed_cell.TypedCell.{TypedCell}
 use Rattle.vital_netlist.specs.Designs.{Design, DesignInstance, DesignSignal, Site}
 use Rattle.vital_netlist.specs.CellDrivers.{driven_numbers}

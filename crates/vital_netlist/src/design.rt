@@ -1,6 +1,6 @@
 //! Designs: what is left of a library under a top for printing and for simulation.
 
-ghost use Rattle.std.specs.Prelude.{◌≡◌, length, map, IfOk};
+ghost use Rattle.std.specs.Prelude.{◌≡◌, ◌^◌, ◌<◌, length, map, IfOk};
 ghost use Rattle.std.specs.List.{range_with_len};
 ghost use Rattle.vital_netlist.specs.Designs as spec;
 ghost use Rattle.vital_netlist.specs.Soundness.{IsSoundDesign};
@@ -91,8 +91,10 @@ impl<'a> Design<'a> {
     }
 
     /// The bits of the top's ports, which are the first signals.
+    #[tactic(auto, using(crate::proofs::FewPorts::few_ports))]
     pub fn ports(&self) -> &Ports
-        ensures { result.now ≡ self.now.ports }
+        ensures ports { result.now ≡ self.now.ports }
+        ensures few { length result.now < 2 ^ 31 }
     {
         &self.ports
     }

@@ -17,8 +17,7 @@ use vital_checked::Checked;
 use vital_instances::{Instance, LibraryUnit, unit_at};
 use vital_library::Library;
 use vital_nodes::Role;
-use vital_sound::typed_is_sound;
-use vital_typed_cells::{TypedPackages, read_typed_cell};
+use vital_typed_cells::{TypedPackages, read_typed_cell, typed_is_sound};
 
 /// The cells that were found so far, and for each entity of the library the number of its cell, if it is one of these.
 #[derive(Drop)]

@@ -14,7 +14,7 @@ use crate::cell_laws::ports_of_cells_are_bits;
 use vital_as_read::cells_are_as_read;
 use vital_connections::associations_are_apart;
 use vital_instances::instances_are_good;
-use vital_sound::typed_is_sound;
+use vital_typed_cells::typed_is_sound;
 
 /// Each bit of a design has a signal, that of its net, where the instances have no fault: a law, called for its clause.
 pub fn bits_have_signals()

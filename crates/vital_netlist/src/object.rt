@@ -4,9 +4,9 @@ ghost use Rattle.std.specs.Prelude.{◌≡◌, ◌++◌, map, true, All, IfOk, O
 ghost use Rattle.std.specs.Option.{option_map, option_map_or};
 ghost use Rattle.vital_connections.specs.Objects.{lent};
 ghost use Rattle.vital_netlist.specs.CellObjects as spec;
-ghost use Rattle.vital_sound.specs.Sound.{IsSound};
-ghost use Rattle.vital_sound.specs.SoundDeclarations.{is_sound_port, names_in_packages};
-ghost use Rattle.vital_sound.specs.Trees.{is_sound_level};
+ghost use Rattle.vital_typed_cells.specs.Sound.{IsSound};
+ghost use Rattle.vital_typed_cells.specs.SoundDeclarations.{is_sound_port, names_in_packages};
+ghost use Rattle.vital_typed_cells.specs.Trees.{is_sound_level};
 ghost use Rattle.vital_worths.specs.Packages.{level_in_packages};
 
 use std::alloc::{AllocError, Global};

@@ -12,7 +12,7 @@ use Rattle.vital_network.specs.declared.network.NetCell.{NetCell}
 use Rattle.vital_network.specs.declared.placed.Placed.{Placed}
 use Rattle.vital_timing.specs.declared.delay.Delay.{Delay}
 use Rattle.vital_typed_cells.specs.declared.typed_cell.TypedCell.{TypedCell}
-use Rattle.vital_walk.proofs.Lists.{map-take, take-one}
+use Rattle.vital_nodes.proofs.Lists.{map-take, take-one}
 
 -- ---- the numbers of their cells
 

@@ -16,11 +16,11 @@ use Rattle.vital_network.proofs.DriverNumbers.{drivers_agree}
 use Rattle.vital_objects.specs.declared.port.Port.{Port}
 use Rattle.vital_objects.specs.declared.signal.Signal.{Signal}
 use Rattle.vital_sections.specs.declared.path_delay.PathDelay.{PathDelay}
-use Rattle.vital_sound.specs.Named.{is_input_port, is_internal, is_output_port}
-use Rattle.vital_sound.specs.Scopes.{actuals_in, in_process, state_tables_in}
-use Rattle.vital_sound.specs.Sound.{IsSound, IsSoundProcess, bit_count, is_sound_wire}
-use Rattle.vital_sound.specs.SoundSections.{is_sound_functional}
-use Rattle.vital_sound.specs.SoundStatements.{is_sound_check, is_sound_path_delay}
+use Rattle.vital_typed_cells.specs.Named.{is_input_port, is_internal, is_output_port}
+use Rattle.vital_typed_cells.specs.Scopes.{actuals_in, in_process, state_tables_in}
+use Rattle.vital_typed_cells.specs.Sound.{IsSound, IsSoundProcess, bit_count, is_sound_wire}
+use Rattle.vital_typed_cells.specs.SoundSections.{is_sound_functional}
+use Rattle.vital_typed_cells.specs.SoundStatements.{is_sound_check, is_sound_path_delay}
 use Rattle.vital_typed_cells.specs.Bits.{names_of, number_of}
 use Rattle.vital_typed_cells.specs.declared.process.CellProcess.{CellProcess}
 use Rattle.vital_typed_cells.specs.declared.typed_cell.TypedCell.{TypedCell}

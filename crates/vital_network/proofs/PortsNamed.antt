@@ -7,7 +7,7 @@ use Rattle.std.proofs.lemmas.List.FromFn.{fill_by_all, get_or-map-range_with_len
 use Rattle.vital_base.specs.declared.ports.PortBit.{PortBit}
 use Rattle.vital_network.specs.DesignNetworks.{is_stimulated, stimulus_driver, stimulus_drivers}
 use Rattle.vital_stim.specs.declared.stimuli.StimLine.{StimLine}
-use Rattle.vital_walk.proofs.Lists.{any-one}
+use Rattle.vital_nodes.proofs.Lists.{any-one}
 
 -- For each of so many port bits it is marked whether a line names it.
 pub record AreNamed (lines : List StimLine) (ports : ℕ) (named : List Bool) : Type 0 where

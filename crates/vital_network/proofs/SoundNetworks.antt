@@ -20,7 +20,7 @@ use Rattle.vital_network.specs.PortNetworks.{port_network, port_signal}
 use Rattle.vital_network.specs.Soundness.{IsSoundCell, IsSoundNetwork}
 use Rattle.vital_network.specs.declared.network.NetSignal.{NetSignal}
 use Rattle.vital_network.proofs.DrivenBits.{as-many-signals}
-use Rattle.vital_sound.specs.Sound.{IsSound}
+use Rattle.vital_typed_cells.specs.Sound.{IsSound}
 use Rattle.vital_stim.specs.declared.stimuli.StimLine.{StimLine}
 use Rattle.vital_timing.specs.declared.delay.Delay.{Delay}
 use Rattle.vital_typed_cells.specs.declared.typed_cell.TypedCell.{TypedCell}
@@ -87,11 +87,11 @@ drivers-of-cells d sound =
 
 cells-sound : (n : Network) (d : Design) (first : ℕ) (placed : List (ℕ × TypedCell)) (values : List (List Delay)) (wiring : List (List ℕ))
     → length n.signals ≡ length d.signals → AllByRecursion IsSound (trees placed) → AllZip (λ p delays. FitsCell p.1 delays) placed values → AllByRecursion (IsWired d) (zip (trees placed) wiring)
-    → first + sum_by driver_count (trees placed) ≤ length (all_drivers n) → AllByRecursion (IsSoundCell n) (cells_from d first placed values wiring)
-cells-sound n d first [] values wiring same sound fit wired most = tt
-cells-sound n d first (p ∷ placed) [] wiring same sound fit wired most = tt
-cells-sound n d first (p ∷ placed) (v ∷ values) [] same sound fit wired most = tt
-cells-sound n d first (p ∷ placed) (v ∷ values) (w ∷ wiring) same sound fit wired most =
+    → first + sum_by driver_count (trees placed) ≤ length (all_drivers n) → length n.stimulus_drivers ≤ first → AllByRecursion (IsSoundCell n) (cells_from d first placed values wiring)
+cells-sound n d first [] values wiring same sound fit wired most behind = tt
+cells-sound n d first (p ∷ placed) [] wiring same sound fit wired most behind = tt
+cells-sound n d first (p ∷ placed) (v ∷ values) [] same sound fit wired most behind = tt
+cells-sound n d first (p ∷ placed) (v ∷ values) (w ∷ wiring) same sound fit wired most behind =
     let sum = sum_by-cons driver_count p.1 (trees placed) in (
       record {
         tree = sound.0;
@@ -99,8 +99,9 @@ cells-sound n d first (p ∷ placed) (v ∷ values) (w ∷ wiring) same sound fi
         wired = wired.0.all;
         signals_there = subst (λ (count : ℕ). All (λ signal. signal < count) w) (sym same) wired.0.there;
         drivers_there = omega (arith, most, sum);
+        behind_stimuli = behind;
       },
-      cells-sound n d (first + driver_count p.1) placed values wiring same sound.1 fit.1 wired.1 (omega (arith, most, sum)),
+      cells-sound n d (first + driver_count p.1) placed values wiring same sound.1 fit.1 wired.1 (omega (arith, most, sum)) (omega (arith, behind)),
     )
 
 -- what is borrowed of delays
@@ -163,7 +164,7 @@ design-sound d values lines watch sound fit few =
           All-append (λ (driver : DesignDriver). driver.signal < length n.signals) stimulated d.drivers
           (All-from_recursion (λ (driver : DesignDriver). driver.signal < length n.signals) stimulated (stimuli-there (λ p. is_stimulated lines p.0) (length n.signals) 0 d.ports (omega (arith, few-ports d sound, same))))
           (subst (λ (most : ℕ). All (λ (driver : DesignDriver). driver.signal < most) d.drivers) (sym same) sound.drivers_there);
-      cells_sound = All-from_recursion (IsSoundCell n) n.cells (cells-sound n d (length stimulated) (placed_cells d) values d.wiring same cells fit wired (omega (arith, count, sum)));
+      cells_sound = All-from_recursion (IsSoundCell n) n.cells (cells-sound n d (length stimulated) (placed_cells d) values d.wiring same cells fit wired (omega (arith, count, sum)) (omega arith));
     }
 
 -- the parts as they are made

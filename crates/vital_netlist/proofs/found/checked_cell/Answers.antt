@@ -1,6 +1,6 @@
 use Rattle.std.proofs.Common.{sym, subst}
 use Rattle.vital_instances.specs.Units.{cell_of, lent}
-use Rattle.vital_sound.specs.Sound.{IsSound}
+use Rattle.vital_typed_cells.specs.Sound.{IsSound}
 use Rattle.vital_netlist.proofs.found.checked_cell.Goals as goal
 
 pub new-requires : goal.new-requires

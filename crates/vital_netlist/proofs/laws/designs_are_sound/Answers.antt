@@ -1,6 +1,6 @@
 use Rattle.std.proofs.lemmas.List.Elements.{All-from_recursion}
 use Rattle.vital_netlist.specs.Cells.{cells}
-use Rattle.vital_sound.specs.Sound.{IsSound}
+use Rattle.vital_typed_cells.specs.Sound.{IsSound}
 use Rattle.vital_netlist.proofs.DesignCells.{cells-sound}
 use Rattle.vital_netlist.proofs.FewSignals.{few-instances, few-signals}
 use Rattle.vital_netlist.proofs.SignalParts.{drivers-there, instances-sound, signals-sound}

@@ -1,7 +1,7 @@
 use Rattle.std.proofs.Common.{arith}
 use Rattle.vital_netlist.proofs.DesignBitLemmas.{bits_turn}
 use Rattle.vital_netlist.proofs.unit.bits_from.Goals as goal
-use Rattle.vital_walk.proofs.Lists.{turn}
+use Rattle.vital_nodes.proofs.Lists.{turn}
 
 pub loop-number-preserved : goal.loop-number-preserved
 loop-number-preserved c =
