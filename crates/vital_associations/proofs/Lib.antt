@@ -7,3 +7,4 @@ pub mod BoundLemmas
 pub mod TakenLemmas
 pub mod TakeLemmas
 pub mod IdentifierLemmas
+pub mod FormalLemmas

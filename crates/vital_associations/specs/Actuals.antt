@@ -8,7 +8,7 @@ use Rattle.vital_nodes.specs.declared.decl.Mode.TheVariants as mode
 use Rattle.vital_nodes.specs.declared.expr.Expr.{Expr}
 use Rattle.vital_nodes.specs.declared.expr.Item.{Item}
 use Rattle.vital_nodes.specs.declared.expr.Reference.{Reference}
-use Rattle.vital_walk.specs.Items.{actual}
+use Rattle.vital_nodes.specs.Items.{actual}
 use Rattle.vital_structure.specs.Shapes.{Part, Scalar, Shape, lent_part, shape_of_part}
 use Rattle.vital_structure.specs.Signals.{UnitSignal, level_literal}
 use Rattle.vital_structure.specs.Structures.{number_of}

@@ -12,7 +12,7 @@ use Rattle.vital_nodes.specs.declared.identifier.Identifier.{Identifier}
 use Rattle.vital_nodes.specs.Layers.{ExprLayer, SuffixLayer}
 use Rattle.vital_nodes.specs.Nodes.{Node, Declaration, Interface, Concurrent, Sequential, Expression, Item, Name, parts_in_choice}
 use Rattle.vital_nodes.specs.Walk.{nodes_of_all}
-use Rattle.vital_walk.specs.Items.{formal}
+use Rattle.vital_nodes.specs.Items.{formal}
 
 -- ---- the identifiers of a node itself
 

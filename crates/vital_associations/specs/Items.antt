@@ -8,7 +8,7 @@ use Rattle.vital_nodes.specs.declared.expr.Expr.{Expr}
 use Rattle.vital_nodes.specs.declared.expr.Item.{Item}
 use Rattle.vital_nodes.specs.declared.expr.Reference.{Reference}
 use Rattle.vital_nodes.specs.Layers.{ActualLayer, ChoiceLayer, ExprLayer, ItemLayer}
-use Rattle.vital_walk.specs.Items.{formal}
+use Rattle.vital_nodes.specs.Items.{formal}
 
 -- An item comes by its position: a value, a range or `open`.
 abbrev pub is_positional_in : ItemLayer → Bool

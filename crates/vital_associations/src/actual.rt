@@ -9,9 +9,8 @@ ghost use Rattle.vital_structure.specs.Structures.{signals_of};
 use crate::formals::part_in;
 use crate::given::is_open;
 use vital_logic::Level;
-use vital_nodes::{Expr, Item, Mode, Reference};
+use vital_nodes::{Expr, Item, Mode, Reference, actual};
 use vital_structure::{Part, Shape, Structure, level_literal};
-use vital_walk::actual;
 
 /// What a port or a part of it is associated with.
 #[derive(Clone, Copy)]

@@ -11,8 +11,7 @@ ghost use Rattle.vital_declarations.specs.Numbers.{number};
 use std::cmp::Ordering;
 use vital_base::Name;
 use vital_declarations::length;
-use vital_nodes::Direction;
-use vital_walk::LiteralBounds;
+use vital_nodes::{Direction, LiteralBounds};
 
 /// A bit of a port.
 #[derive(Clone, Copy)]

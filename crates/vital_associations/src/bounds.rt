@@ -3,13 +3,12 @@
 ghost use Rattle.std.specs.Prelude.{◌≡◌, ◌==◌};
 ghost use Rattle.vital_associations.specs.Overlaps as spec;
 ghost use Rattle.vital_declarations.specs.Numbers.{length_of, number, range_of};
-ghost use Rattle.vital_walk.specs.Bounds.{shown};
+ghost use Rattle.vital_nodes.specs.Bounds.{shown};
 
 use crate::sum::have_same_sum;
 use vital_base::Name;
-use vital_nodes::Direction;
+use vital_nodes::{Direction, LiteralBounds};
 use vital_structure::is_null;
-use vital_walk::LiteralBounds;
 
 /// The least number of a range that is not null.
 pub fn least<'a>(bounds: LiteralBounds<'a>) -> &'a Name

@@ -1,10 +1,10 @@
 //! The ports of an entity as the formals of its instances.
 
-ghost use Rattle.std.specs.Prelude.{◌≡◌, IfOk};
+ghost use Rattle.std.specs.Prelude.{◌≡◌, IfOk, map};
 ghost use Rattle.std.specs.Option.{option_map};
 ghost use Rattle.vital_associations.specs.Formals as spec;
 ghost use Rattle.vital_level0.specs.Ports.{mode_at};
-ghost use Rattle.vital_structure.specs.Shapes.{lent, lent_part};
+ghost use Rattle.vital_structure.specs.Shapes.{lent, lent_part, shape_of_port as shape_of_port'};
 
 use std::alloc::{AllocError, Global};
 use std::marker::Model;
@@ -16,15 +16,17 @@ use vital_structure::{Part, Shape, part_behind, shape_of_port};
 /// The ports of an entity, which are found by their names. It is made once for an entity. Contracts see it as the list of the ports.
 #[derive(Drop)]
 pub struct Formals<'a> {
-    library: &'a LibraryNames<'a>,
     ports: &'a [Iface],
     index: PortIndex<'a>,
+    /// What each port is.
+    shapes: Vec<Shape<'a>>,
 }
 
 impl<'a> Model for Formals<'a> {
-    ghost use Rattle.std.specs.Prelude.{◌≡◌, List};
+    ghost use Rattle.std.specs.Prelude.{◌≡◌, List, map};
     ghost use Rattle.vital_nodes.specs.declared.decl.Iface.{Iface};
     ghost use Rattle.vital_nodes.specs.contracts.decl.Iface as iface;
+    ghost use Rattle.vital_structure.specs.Shapes.{lent, shape_of_port};
     ghost use Rattle.std.specs.Coded.{codes};
 
     ghost Value = { List Iface };
@@ -33,23 +35,23 @@ impl<'a> Model for Formals<'a> {
 
     ghost view = { λ formals. formals.ports.now };
 
-    ghost invariant = { λ formals. formals.index ≡ formals.ports.now };
+    ghost invariant = { λ formals. (formals.index ≡ formals.ports.now) × (map lent formals.shapes.items ≡ map shape_of_port formals.ports.now) };
 }
 
 impl<'a> Formals<'a> {
     /// The ports of an entity. It takes time and memory in proportion to them.
     pub fn new(
         alloc: Global,
-        library: &'a LibraryNames<'a>,
+        library: &LibraryNames<'_>,
         entity: &'a Entity,
     ) -> Result<Formals<'a>, AllocError>
         ensures { IfOk result (λ formals. formals ≡ entity.now.ports) }
     {
-        let index = PortIndex::new(alloc, entity)?;
+        let ports = entity.ports.as_slice();
         Ok(Formals {
-            library,
-            ports: entity.ports.as_slice(),
-            index,
+            ports,
+            index: PortIndex::new(alloc, entity)?,
+            shapes: shapes_of(alloc, library, ports)?,
         })
     }
 
@@ -64,8 +66,8 @@ impl<'a> Formals<'a> {
     pub fn shape(&self, number: usize) -> Shape<'a>
         ensures { lent result ≡ spec.shape_at self.now number }
     {
-        match self.ports.get(number) {
-            Some(port) => shape_of_port(self.library, port),
+        match self.shapes.get(number) {
+            Some(shape) => *shape,
             None => Shape::Scalar,
         }
     }
@@ -85,6 +87,21 @@ impl<'a> Formals<'a> {
         let part = part_in(self.shape(number), name.suffixes.as_slice())?;
         Some((number, part))
     }
+}
+
+/// What each of some ports is.
+fn shapes_of<'a>(
+    alloc: Global,
+    library: &LibraryNames<'_>,
+    ports: &'a [Iface],
+) -> Result<Vec<Shape<'a>>, AllocError>
+    ensures { IfOk result (λ shapes. map lent shapes.items ≡ map shape_of_port' ports.now) }
+{
+    let mut shapes = Vec::with_capacity(alloc, ports.len())?;
+    for port in ports {
+        shapes.push(shape_of_port(library, port))?;
+    }
+    Ok(shapes)
 }
 
 /// The part that stands behind an identifier, if it is in the range.

@@ -5,11 +5,10 @@ ghost use Rattle.std.specs.List.{filter_map, flat_map};
 ghost use Rattle.std.specs.Option.{option_copied};
 ghost use Rattle.vital_associations.specs.Identifiers as spec;
 ghost use Rattle.vital_nodes.specs.Walk.{nodes_of_all};
-ghost use Rattle.vital_walk.specs.Seen.{seen};
+ghost use Rattle.vital_nodes.specs.Seen.{seen};
 
 use std::alloc::{AllocError, Global};
-use vital_nodes::{Choice, Expr, Identifier, Item, Suffix};
-use vital_walk::{Node, formal, nodes_of_all};
+use vital_nodes::{Choice, Expr, Identifier, Item, Node, Suffix, formal, nodes_of_all};
 
 /// How many parentheses may be open in a text.
 const MOST_NESTED: usize = 64;

@@ -8,8 +8,7 @@ ghost use Rattle.vital_associations.specs.Points as spec;
 use crate::identifiers::{identifiers_of_choice, identifiers_of_expr};
 use std::alloc::{AllocError, Global};
 use vital_base::Place;
-use vital_nodes::{Actual, Choice, Expr, Identifier, Item};
-use vital_walk::HasPlace;
+use vital_nodes::{Actual, Choice, Expr, HasPlace, Identifier, Item};
 
 /// A place, and the identifier that stands there, if one does.
 #[derive(Clone, Copy)]

@@ -6,13 +6,13 @@ ghost use Rattle.vital_associations.specs.Overlaps.{indices};
 ghost use Rattle.vital_associations.specs.Spans as spec;
 ghost use Rattle.vital_declarations.specs.Numbers.{range_of};
 ghost use Rattle.vital_structure.specs.Shapes as shapes;
-ghost use Rattle.vital_walk.specs.Bounds.{shown};
+ghost use Rattle.vital_nodes.specs.Bounds.{shown};
 
 use crate::bit::Bit;
 use crate::bounds::{greatest, least};
 use vital_base::Name;
+use vital_nodes::LiteralBounds;
 use vital_structure::{Part, Shape, is_null};
-use vital_walk::LiteralBounds;
 
 /// Bits of a port that stand side by side.
 #[derive(Clone, Copy)]

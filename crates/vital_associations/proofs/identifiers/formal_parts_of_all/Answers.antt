@@ -1,7 +1,7 @@
 use Rattle.std.proofs.Common.{◌++◌, sym, ◌∙◌, ap, arith}
 use Rattle.vital_associations.specs.Identifiers.{formal_parts}
-use Rattle.vital_walk.specs.Seen.{seen}
-use Rattle.vital_walk.proofs.Lists.{flat_map-seen}
+use Rattle.vital_nodes.specs.Seen.{seen}
+use Rattle.vital_nodes.proofs.Lists.{flat_map-seen}
 use Rattle.vital_associations.proofs.identifiers.formal_parts_of_all.Goals as goal
 
 pub loop-node-preserved : goal.loop-node-preserved

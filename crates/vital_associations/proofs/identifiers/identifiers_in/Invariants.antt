@@ -1,6 +1,6 @@
 use Rattle.std.proofs.Common.{◌≡◌, ◌++◌, ◌-◌, map}
 use Rattle.vital_associations.specs.Identifiers.{identifiers_in, identifiers_to, most_nested}
-use Rattle.vital_walk.specs.Seen.{seen}
+use Rattle.vital_nodes.specs.Seen.{seen}
 use Rattle.vital_associations.proofs.identifiers.identifiers_in.Given as goal
 
 abbrev pub invariant-loop : goal.invariant-loop

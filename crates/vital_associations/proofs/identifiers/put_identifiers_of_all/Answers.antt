@@ -1,8 +1,8 @@
 use Rattle.std.proofs.Common.{map, take, ◌++◌, sym, ◌∙◌, ap, append_assoc, arith}
 use Rattle.std.specs.List.{flat_map}
 use Rattle.vital_associations.specs.Identifiers.{identifiers_of_node}
-use Rattle.vital_walk.specs.Seen.{seen}
-use Rattle.vital_walk.proofs.Lists.{flat_map-seen}
+use Rattle.vital_nodes.specs.Seen.{seen}
+use Rattle.vital_nodes.proofs.Lists.{flat_map-seen}
 use Rattle.vital_associations.proofs.identifiers.put_identifiers_of_all.Goals as goal
 
 pub loop-node-preserved : goal.loop-node-preserved

@@ -1,7 +1,7 @@
 use Rattle.std.proofs.Common.{map, take, ◌++◌, [], ◌∷◌, sym, ◌∙◌, ap, append_assoc, arith}
 use Rattle.std.specs.List.{filter_map}
 use Rattle.vital_associations.specs.Identifiers.{identifier_of_suffix}
-use Rattle.vital_walk.proofs.Lists.{filter_map-one}
+use Rattle.vital_nodes.proofs.Lists.{filter_map-one}
 use Rattle.vital_associations.proofs.identifiers.put_identifiers_of_suffixes.Goals as goal
 
 pub loop-suffix-preserved : goal.loop-suffix-preserved
