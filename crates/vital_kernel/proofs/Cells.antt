@@ -1,13 +1,14 @@
 -- The instance of a process of a network.
-use Rattle.std.proofs.Common.{◌≡◌, ◌∙◌, ℕ, ◌+◌, ◌-◌, ◌≤◌, suc, zero, List, [], ◌∷◌, ◌++◌, map, Some, refl, ap, sym, subst, arith}
-use Rattle.std.specs.List.{enumerate_from, flat_map}
+use Rattle.std.proofs.Common.{◌≡◌, ◌∙◌, ℕ, ◌+◌, ◌-◌, ◌≤◌, suc, zero, Bool, true, false, cond, List, [], ◌∷◌, ◌++◌, length, map, Some, refl, ap, sym, subst, arith}
+use Rattle.std.specs.List.{enumerate_from, filter, flat_map}
 use Rattle.std.specs.Prelude.{All, slice_get}
 use Rattle.std.proofs.lemmas.Option.{get_or_from_slice_get, slice_get_within}
 use Rattle.vital_execution.specs.Execution.{Executed, all_executed}
 use Rattle.vital_network.specs.Networks.{NetCell, NetProcess, Network, processes, processes_of}
+use Rattle.vital_network.specs.Soundness.{IsSoundCell, IsSoundNetwork}
 
 -- what holds of each process of a list
-abbrev Each : (NetProcess → Type 0) → List NetProcess → Type 0
+abbrev pub Each : (NetProcess → Type 0) → List NetProcess → Type 0
 Each P [] = Unit {0}
 Each P (p ∷ ps) = P p × Each P ps
 
@@ -23,6 +24,14 @@ each_at : (P : NetProcess → Type 0) (ps : List NetProcess) (k : ℕ) (p : NetP
 each_at P [] k p h e = absurd cc
 each_at P (q ∷ ps) zero p h e = let same : q ≡ p = cc in subst P same h.0
 each_at P (q ∷ ps) (suc k) p h e = each_at P ps k p h.1 e
+
+pub each_filter : (P : NetProcess → Type 0) (test : NetProcess → Bool) (ps : List NetProcess) → Each P ps → Each P (filter test ps)
+each_filter P test [] h = tt
+each_filter P test (p ∷ ps) h =
+    elim (test p) as (λ b. Each P (cond b (p ∷ filter test ps) (filter test ps))) [
+      | true ↦ (h.0, each_filter P test ps h.1)
+      | false ↦ each_filter P test ps h.1
+    ]
 
 -- a process of the instance of a number
 abbrev IsOf : ℕ → NetCell → NetProcess → Type 0
@@ -64,3 +73,10 @@ cell_there n k p e =
 -- what holds of all items holds of the one of a number
 pub all_at : {X : Type 0} (P : X → Type 0) (xs : List X) (k : ℕ) (x : X) → All P xs → slice_get xs k ≡ Some x → P x
 all_at P xs k x all e = subst P (get_or_from_slice_get xs k x x e) (all k x (slice_get_within xs k x e))
+
+-- the drivers of each process come behind those of the stimuli
+pub all_behind : (n : Network) → IsSoundNetwork n → Each (λ p. length n.stimulus_drivers ≤ p.cell.first_driver) (processes n)
+all_behind n sound =
+    let behind : (p : NetProcess) → IsAmong 0 n.cells p → length n.stimulus_drivers ≤ p.cell.first_driver =
+    λ p among. (all_at (IsSoundCell n) n.cells (p.instance - 0) p.cell sound.cells_sound among.1).behind_stimuli in
+    each_weaker (IsAmong 0 n.cells) (λ p. length n.stimulus_drivers ≤ p.cell.first_driver) behind (processes n) (all_among 0 n.cells)

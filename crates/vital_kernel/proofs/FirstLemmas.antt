@@ -1,19 +1,24 @@
 -- The initial run as its parts.
-use Rattle.std.proofs.Common.{◌≡◌, ◌∙◌, ℕ, List, [], ◌∷◌, map, refl, ap}
-use Rattle.std.specs.List.{flat_map, fold, zip}
+use Rattle.std.proofs.Common.{◌≡◌, ◌∙◌, ℕ, List, [], ◌∷◌, length, map, refl, ap, sym}
+use Rattle.std.specs.List.{flat_map, zip}
+use Rattle.std.specs.List.Sorted.{IsNonDecreasing}
 use Rattle.std.specs.Prelude.{All}
 use Rattle.vital_agenda.specs.Agendas.{Content, idle, idle_driver}
 use Rattle.vital_agenda.specs.Driver.{Driver}
-use Rattle.vital_kernel.specs.Activations.{AreStimulusDrivers, init_text, state_of, stimulated_by}
-use Rattle.vital_kernel.specs.Cycles.{after_stimuli, first_drivers, first_state, stimulated}
-use Rattle.vital_kernel.specs.Kernels.{IsDriven}
+use Rattle.vital_kernel.specs.Activations.{from_state, init_text, state_of}
+use Rattle.vital_kernel.specs.Cycles.{Part, all_activated, first_drivers, first_state, initial_run}
+use Rattle.vital_kernel.specs.Handing.{AreStimulusDrivers}
+use Rattle.vital_kernel.specs.Kernels.{IsDriven, state_with}
 use Rattle.vital_kernel.specs.Lines.{init_lines}
 use Rattle.vital_kernel.specs.States.{State, values}
+use Rattle.vital_kernel.proofs.Cells.{all_behind}
 use Rattle.vital_kernel.proofs.EventLemmas.{init_texts, quiet_values}
-use Rattle.vital_kernel.proofs.StimulusLemmas.{lines_assigned}
+use Rattle.vital_kernel.proofs.Lifting.{all_with, part_with}
+use Rattle.vital_kernel.proofs.StimulusLemmas.{all_left, lines_assigned}
 use Rattle.vital_logic.specs.declared.level.Level.{Level}
 use Rattle.vital_netlist.specs.declared.design_lists.DesignDriver.{DesignDriver}
-use Rattle.vital_network.specs.Networks.{Network, all_drivers}
+use Rattle.vital_network.specs.Networks.{Network, all_drivers, processes}
+use Rattle.vital_network.specs.Soundness.{IsSoundNetwork}
 use Rattle.vital_processes.specs.Processes.{ProcessStates, first_variables}
 use Rattle.vital_report.specs.Lines.{text_of}
 use Rattle.vital_signals.specs.Events.{quiet_signal}
@@ -28,16 +33,23 @@ inits_told n s first =
     ap (λ (x : State). flat_map init_text (zip n.signals (map (λ (y : Signal). y.value) x.signals))) first
     ∙ ap (λ (vs : List Level). flat_map init_text (zip n.signals vs)) (quiet_values given) ∙ init_texts n.signals given
 
--- the stimuli are assigned
-pub stimuli_done : (n : Network) (lines : List StimLine) (read numbers : List ℕ) (old new : Content) (delta : ℕ) (s : SignalState) (ps : ProcessStates) → read ≡ numbers → AreStimulusDrivers n numbers
-    → All (IsDriven n) lines → state_of old delta s.signals ps.variables ≡ first_state n
-    → new ≡ (let it : Content = record { now = old.now; drivers = fold (stimulated_by read) old.drivers lines } in it)
-    → state_of new delta s.signals ps.variables ≡ (after_stimuli n lines).state
-stimuli_done n lines read numbers old new delta s ps same are driven first is =
-    ap (λ (c : Content). state_of c delta s.signals ps.variables) is
-    ∙ ap (λ (xs : List ℕ). let it : State = record { now = old.now; delta = delta; drivers = fold (stimulated_by xs) old.drivers lines; signals = s.signals; variables = ps.variables } in it) same
-    ∙ ap (λ (ds : List Driver). let it : State = record { now = old.now; delta = delta; drivers = ds; signals = s.signals; variables = ps.variables } in it) (lines_assigned n numbers lines old.drivers are driven)
-    ∙ ap (λ (x : State). let it : State = record x { drivers = fold (stimulated n) x.drivers lines } in it) first
+-- the initial run is that of the processes, with all lines still to be handed
+pub record IsFirst (n : Network) (numbers : List ℕ) (lines : List StimLine) (s : State) : Type 0 where
+  pub state : state_with numbers lines (all_activated (processes n) (from_state s)).state ≡ (initial_run n lines).state
+  pub happened : (all_activated (processes n) (from_state s)).happened ≡ (initial_run n lines).happened
+
+pub is_first : (n : Network) (numbers : List ℕ) (lines : List StimLine) (s : State) → IsSoundNetwork n → AreStimulusDrivers n numbers → All (IsDriven n) lines
+    → IsNonDecreasing (map (λ line. line.time) lines) → s ≡ first_state n → IsFirst n numbers lines s
+is_first n numbers lines s sound are driven order first =
+    let start = first_state n in
+    let with_lines_is : initial_run n lines ≡ all_activated (processes n) (part_with numbers lines (from_state start)) =
+    ap (λ (ds : List Driver). all_activated (processes n) (from_state (let it : State = record start { drivers = ds } in it))) (sym (lines_assigned n numbers lines start.drivers are driven)) in
+    let whole : initial_run n lines ≡ part_with numbers lines (all_activated (processes n) (from_state start)) =
+    with_lines_is ∙ all_with numbers (length n.stimulus_drivers) 0 lines (processes n) (from_state start) (all_left n numbers lines are sound.signals_there driven order) (all_behind n sound) in
+    record {
+      state = ap (λ (x : State). state_with numbers lines (all_activated (processes n) (from_state x)).state) first ∙ sym (ap (λ (x : Part). x.state) whole);
+      happened = ap (λ (x : State). (all_activated (processes n) (from_state x)).happened) first ∙ sym (ap (λ (x : Part). x.happened) whole);
+    }
 
 -- ---- before the initial run
 

@@ -1,11 +1,15 @@
 -- The parts of a simulation after a part of its run.
-use Rattle.std.proofs.Common.{◌≡◌, ◌∙◌, ℕ, ◌-◌, ◌^◌, ◌<◌, ◌≤◌, Bool, true, List, length, map, refl, sym, arith}
+use Rattle.std.proofs.Common.{◌≡◌, ◌∙◌, ℕ, ◌-◌, ◌^◌, ◌<◌, ◌≤◌, Bool, false, true, List, length, map, refl, sym, ap, subst, arith}
+use Rattle.std.specs.Prelude.{All}
 use Rattle.std.proofs.lemmas.Bool.{false≢true}
 use Rattle.vital_agenda.specs.Agendas.{Content}
 use Rattle.vital_kernel.specs.Activations.{CanRun, KeepsValues, state_of}
+use Rattle.vital_kernel.specs.Handing.{AreLeft}
 use Rattle.vital_kernel.specs.Kernels.{AreParts, Simulation}
+use Rattle.vital_kernel.specs.States.{State}
 use Rattle.vital_kernel.proofs.CycleLemmas.{as_many_drivers, as_many_signals}
-use Rattle.vital_listeners.specs.Triggered.{ListenerState}
+use Rattle.vital_kernel.proofs.StimulusLemmas.{all_left}
+use Rattle.vital_processes.specs.Triggered.{ListenerState}
 use Rattle.vital_network.specs.Networks.{Network, all_drivers}
 use Rattle.vital_processes.specs.Processes.{ProcessStates}
 use Rattle.vital_signals.specs.SignalStates.{AreCurrent, SignalState}
@@ -17,21 +21,22 @@ simulation n lines begun delta content s processes =
     record { network = n; lines = lines; is_begun = begun; state = state_of content delta s.signals processes.variables }
 
 -- what is new of the parts
-pub record AreNext (n : Network) (count : ℕ) (old new : Content) (s t : SignalState) (qs : ProcessStates) (ls ms : ListenerState) : Type 0 where
+pub record AreNext (n : Network) (numbers : List ℕ) (left : List StimLine) (count : ℕ) (old new : Content) (s t : SignalState) (qs : ProcessStates) (ls ms : ListenerState) : Type 0 where
   pub defaults : t.defaults ≡ s.defaults
   pub signals_of : t.signals_of ≡ s.signals_of
   pub listened : ms.signals ≡ ls.signals
   pub sensitivities : ms.sensitivities ≡ ls.sensitivities
   pub network : qs.network ≡ n
+  pub to_hand : AreLeft numbers (length n.stimulus_drivers) new.now left
   pub current : AreCurrent t new.drivers
   pub as_many : length new.drivers ≡ length old.drivers
   pub latest : qs.latest ≤ new.now
   pub delta : count < 2 ^ 64 - 1
 
-pub next_parts : (n : Network) (lines : List StimLine) (begun : Bool) (before delta most room : ℕ) (numbers : List ℕ) (old new : Content) (s t : SignalState) (ps qs : ProcessStates) (ls ms : ListenerState)
-    → AreParts (simulation n lines begun before old s ps) numbers most s ps ls → begun ≡ true → room ≡ most → AreNext n delta old new s t qs ls ms
-    → AreParts (simulation n lines begun delta new t qs) numbers room t qs ms
-next_parts n lines begun before delta most room numbers old new s t ps qs ls ms h is same next =
+pub next_parts : (n : Network) (lines had left : List StimLine) (begun : Bool) (before delta most room : ℕ) (numbers : List ℕ) (old new : Content) (s t : SignalState) (ps qs : ProcessStates) (ls ms : ListenerState)
+    → AreParts (simulation n lines begun before old s ps) numbers had most s ps ls → begun ≡ true → room ≡ most → AreNext n numbers left delta old new s t qs ls ms
+    → AreParts (simulation n lines begun delta new t qs) numbers left room t qs ms
+next_parts n lines had left begun before delta most room numbers old new s t ps qs ls ms h is same next =
     record {
       defaults = next.defaults ∙ h.defaults;
       signals_of = next.signals_of ∙ h.signals_of;
@@ -40,6 +45,8 @@ next_parts n lines begun before delta most room numbers old new s t ps qs ls ms 
       network = next.network;
       stimulated = h.stimulated;
       driven = h.driven;
+      in_order = h.in_order;
+      to_hand = next.to_hand;
       current = next.current;
       room = omega (arith, next.as_many, h.room, same);
       latest = next.latest;
@@ -48,21 +55,45 @@ next_parts n lines begun before delta most room numbers old new s t ps qs ls ms 
     }
 
 -- assignments alone
-pub kept_parts : (n : Network) (lines : List StimLine) (begun : Bool) (delta most : ℕ) (numbers : List ℕ) (old new : Content) (s : SignalState) (ps qs : ProcessStates) (ls : ListenerState)
-    → AreParts (simulation n lines begun delta old s ps) numbers most s ps ls → begun ≡ true → KeepsValues old new → qs.network ≡ n → qs.latest ≤ new.now
-    → AreParts (simulation n lines begun delta new s qs) numbers most s qs ls
-kept_parts n lines begun delta most numbers old new s ps qs ls h is keeps network latest =
-    next_parts n lines begun delta delta most most numbers old new s s ps qs ls ls h is refl (record {
+pub kept_parts : (n : Network) (lines had left : List StimLine) (begun : Bool) (delta most : ℕ) (numbers : List ℕ) (old new : Content) (s : SignalState) (ps qs : ProcessStates) (ls : ListenerState)
+    → AreParts (simulation n lines begun delta old s ps) numbers had most s ps ls → begun ≡ true → KeepsValues old new → qs.network ≡ n → qs.latest ≤ new.now → AreLeft numbers (length n.stimulus_drivers) old.now left
+    → AreParts (simulation n lines begun delta new s qs) numbers left most s qs ls
+kept_parts n lines had left begun delta most numbers old new s ps qs ls h is keeps network latest come =
+    next_parts n lines had left begun delta delta most most numbers old new s s ps qs ls ls h is refl (record {
       defaults = refl;
       signals_of = refl;
       listened = refl;
       sensitivities = refl;
       network = network;
+      to_hand = subst (λ (t : ℕ). AreLeft numbers (length n.stimulus_drivers) t left) (sym keeps.now) come;
       current = keeps.current s h.current;
       as_many = keeps.as_many;
       latest = latest;
       delta = h.delta;
     })
+
+-- the initial run begins
+pub begun_parts : (n : Network) (lines left : List StimLine) (begun : Bool) (delta most : ℕ) (numbers : List ℕ) (old : Content) (s : SignalState) (ps : ProcessStates) (ls : ListenerState)
+    → AreParts (simulation n lines begun delta old s ps) numbers left most s ps ls → begun ≡ false → All (λ d. d.signal < length n.signals) (all_drivers n)
+    → AreParts (simulation n lines true delta old s ps) numbers lines most s ps ls
+begun_parts n lines left begun delta most numbers old s ps ls h is there =
+    let zero : old.now ≡ 0 = ap (λ (x : State). x.now) (h.first is).0 in
+    record {
+      defaults = h.defaults;
+      signals_of = h.signals_of;
+      listened = h.listened;
+      sensitivities = h.sensitivities;
+      network = h.network;
+      stimulated = h.stimulated;
+      driven = h.driven;
+      in_order = h.in_order;
+      to_hand = subst (λ (t : ℕ). AreLeft numbers (length n.stimulus_drivers) t lines) (sym zero) (all_left n numbers lines h.stimulated there h.driven h.in_order);
+      current = h.current;
+      room = h.room;
+      latest = h.latest;
+      delta = h.delta;
+      first = λ e. absurd (false≢true (sym e));
+    }
 
 -- processes can run
 pub can_run : (n : Network) (content : Content) (s : SignalState) (ps : ProcessStates) → s.defaults ≡ map (λ x. x.initial) n.signals → s.signals_of ≡ map (λ x. x.signal) (all_drivers n)

@@ -1,9 +1,9 @@
 -- The least of the times at which drivers have pending transactions.
-use Rattle.std.proofs.Common.{◌≡◌, ℕ, ◌+◌, ◌<◌, ◌≤◌, min, Bool, true, false, not, cond, List, [], ◌∷◌, ◌++◌, length, filter, map, ◌⊎◌, inl, inr, Option, Some, None, refl, sym, ap, subst, ◌∙◌, arith}
+use Rattle.std.proofs.Common.{◌≡◌, ℕ, ◌+◌, ◌≤◌, min, not, List, [], ◌∷◌, ◌++◌, filter, map, ◌⊎◌, inl, inr, Option, Some, None, refl, sym, ap, subst, ◌∙◌, arith}
 use Rattle.std.specs.List.{flat_map}
 use Rattle.std.proofs.lemmas.Bool.{cases_eq, cases_lt, eq-eqb, ne_eqb}
 use Rattle.vital_agenda.specs.declared.transaction.Transaction.{Transaction}
-use Rattle.vital_agenda.specs.Driver.{Driver, RisesFrom, AllRise, is_at, sooner, least, pending_times, next_time, advance, pending_count}
+use Rattle.vital_agenda.specs.Driver.{Driver, RisesFrom, AllRise, is_at, sooner, least, pending_times, next_time, advance}
 use Rattle.vital_kernel.proofs.Rising.{rises_lower, first_is_least, none_at}
 
 sooner_assoc : (x : ℕ) (a b : Option ℕ) → sooner (Some x) (sooner a b) ≡ sooner (sooner (Some x) a) b
@@ -24,7 +24,7 @@ abbrev pub NotAfter : ℕ → Option ℕ → Type 0
 NotAfter time None = Unit {0}
 NotAfter time (Some other) = time ≤ other
 
-not_after_sooner : (time : ℕ) (a b : Option ℕ) → NotAfter time (sooner a b) → NotAfter time a × NotAfter time b
+pub not_after_sooner : (time : ℕ) (a b : Option ℕ) → NotAfter time (sooner a b) → NotAfter time a × NotAfter time b
 not_after_sooner time None b h = (tt, h)
 not_after_sooner time (Some a) None h = (h, tt)
 not_after_sooner time (Some a) (Some b) h = (omega arith, omega arith)
@@ -67,32 +67,6 @@ pub all_rise_after : (time : ℕ) (ds : List Driver) → AllRise time ds → All
 all_rise_after time [] h = tt
 all_rise_after time (d ∷ ds) h = (advance_rises time d.pending h.0, all_rise_after time ds h.1)
 
-kept-le : (p : Transaction → Bool) (xs : List Transaction) → length (filter p xs) ≤ length xs
-kept-le p [] = omega arith
-kept-le p (x ∷ xs) =
-    elim (p x) as (λ b. length (cond b (x ∷ filter p xs) (filter p xs)) ≤ length (x ∷ xs)) [
-      | true ↦ omega (arith, kept-le p xs)
-      | false ↦ omega (arith, kept-le p xs)
-    ]
-
-pub count-le : (time : ℕ) (ds : List Driver) → pending_count (map (advance time) ds) ≤ pending_count ds
-count-le time [] = omega arith
-count-le time (d ∷ ds) = omega (arith, kept-le (λ x. not (is_at time x)) d.pending, count-le time ds)
-
-one_goes : (time : ℕ) (xs : List Transaction) → least (map (λ x. x.time) xs) ≡ Some time → length (filter (λ x. not (is_at time x)) xs) < length xs
-one_goes time [] e = absurd cc
-one_goes time (x ∷ xs) e =
-    elim (cases_eq x.time time) [
-      | inl same ↦ rw (eq-eqb x.time time same) (omega (arith, kept-le (λ y. not (is_at time y)) xs))
-      | inr other ↦ rw (ne_eqb x.time time other) (omega (arith, one_goes time xs (among time x.time (least (map (λ y. y.time) xs)) other e)))
-    ]
-  where
-    among : (time first : ℕ) (o : Option ℕ) → (first ≡ time → ⊥) → sooner (Some first) o ≡ Some time → o ≡ Some time
-    among time first None other e = let same : first ≡ time = cc in absurd (other same)
-    among time first (Some o) other e =
-        let least_is : min first o ≡ time = cc in
-        ap (λ (n : ℕ). Some n) (omega (arith, least_is, other))
-
 either_is : (time : ℕ) (a b : Option ℕ) → sooner a b ≡ Some time → (a ≡ Some time) ⊎ (b ≡ Some time)
 either_is time None b e = inr e
 either_is time (Some a) None e = inl e
@@ -101,15 +75,6 @@ either_is time (Some a) (Some b) e =
     elim (cases_lt a b) [
       | inl lt ↦ inl (ap (λ (n : ℕ). Some n) (omega (arith, least_is, lt)))
       | inr ge ↦ inr (ap (λ (n : ℕ). Some n) (omega (arith, least_is, ge)))
-    ]
-
--- a cycle takes a transaction off
-pub fewer_pending : (time : ℕ) (ds : List Driver) → next_time ds ≡ Some time → pending_count (map (advance time) ds) < pending_count ds
-fewer_pending time [] e = absurd cc
-fewer_pending time (d ∷ ds) e =
-    elim (either_is time (least (pending_times d)) (next_time ds) (sym (least-append (pending_times d) (flat_map pending_times ds)) ∙ e)) [
-      | inl here ↦ omega (arith, one_goes time d.pending here, count-le time ds)
-      | inr there ↦ omega (arith, kept-le (λ x. not (is_at time x)) d.pending, fewer_pending time ds there)
     ]
 
 pub rises_above : (low time : ℕ) (xs : List Transaction) → RisesFrom low xs → least (map (λ x. x.time) xs) ≡ Some time → low ≤ time

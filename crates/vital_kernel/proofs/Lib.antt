@@ -5,11 +5,11 @@ pub mod Kept
 pub mod OneRun
 pub mod SomeRun
 pub mod PortNetworks
-pub mod PortCycles
 pub mod PortRuns
 mod RowParts
 mod NetworkRows
 mod PortRows
+mod HandingRows
 mod WireRows
 mod BufferParts
 mod PathRows
@@ -23,6 +23,8 @@ mod Cells
 mod Picked
 mod EventLemmas
 mod Keeping
+mod Handing
+mod Lifting
 mod StimulusLemmas
 mod Steps
 mod RunLemmas
@@ -32,3 +34,4 @@ mod KernelLemmas
 mod Activating
 mod EffectLemmas
 mod FirstLemmas
+mod Handed

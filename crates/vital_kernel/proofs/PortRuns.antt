@@ -1,185 +1,95 @@
--- The run of ports alone is that of their drivers.
-use Rattle.std.proofs.Common.{◌≡◌, ℕ, zero, suc, ◌+◌, ◌<◌, ◌≤◌, List, [], ◌∷◌, ◌++◌, length, map, refl, sym, ap, subst, ◌∙◌, arith, inl, inr}
-use Rattle.std.specs.Prelude.{◌==◌}
-use Rattle.std.specs.List.{enumerate_from, flat_map, fold, position_or_len, zip}
-use Rattle.std.proofs.lemmas.Bool.{cases_lt, eq-eqb, ne_eqb}
-use Rattle.std.proofs.lemmas.List.{length-map}
-use Rattle.vital_agenda.specs.Agendas.{changed, idle_driver}
-use Rattle.vital_agenda.specs.Driver.{AllRise, Driver, currents, pending_count, send}
-use Rattle.vital_base.specs.declared.kind.Kind.TheVariants.{Transport}
+-- The run of ports alone ends.
+use Rattle.std.proofs.Common.{◌≡◌, ◌∙◌, ℕ, ◌+◌, ◌<◌, ◌⊎◌, inl, inr, List, [], map, Option, Some, None, refl, sym, ap, subst, arith}
+use Rattle.std.specs.List.{enumerate_from, filter, flat_map}
+use Rattle.std.proofs.lemmas.Bool.{cases_eq, eq-eqb, ne_eqb}
+use Rattle.vital_agenda.specs.Driver.{AllRise, advance, next_time}
 use Rattle.vital_base.specs.declared.ports.PortBit.{PortBit}
-use Rattle.vital_logic.specs.Levels.{byte_of}
-use Rattle.vital_logic.specs.declared.level.Level.{Level}
-use Rattle.vital_netlist.specs.declared.design_lists.DesignDriver.{DesignDriver}
 use Rattle.vital_stim.specs.declared.stimuli.StimLine.{StimLine}
-use Rattle.vital_kernel.specs.Cycles.{after_stimuli, Part, all_activated, driver_of_port, first_drivers, initial_run, stimulated}
-use Rattle.vital_network.specs.DesignNetworks.{stimulus_driver}
-use Rattle.vital_kernel.specs.Lines.{init_line, init_lines, lines_of}
-use Rattle.vital_report.specs.Lines.{Said, init}
+use Rattle.vital_kernel.specs.Cycles.{Happening, Part, all_activated, cycle_at, initial_run, is_sensitive_to, new_values, updated}
+use Rattle.vital_kernel.specs.PortRuns.{IsPortRun}
+use Rattle.vital_kernel.specs.Runs.{End, Ended, IsRun, Run, cycle, delta_at, ended, ends, goes_on, passed, passes, step, step_at, up_to}
+use Rattle.vital_kernel.specs.States.{State}
+use Rattle.vital_kernel.proofs.Kept.{initial_keeps}
+use Rattle.vital_kernel.proofs.Least.{all_rise_after, all_rise_lower, all_rise_next, next_is_above}
+use Rattle.vital_kernel.proofs.RunLemmas.{step_cycle}
+use Rattle.vital_kernel.proofs.SomeRun.{Next, next_in, one_whole_run}
 use Rattle.vital_network.specs.Networks.{NetCell, NetProcess, Network, processes, processes_of}
-use Rattle.vital_network.specs.declared.network.NetSignal.{NetSignal}
-use Rattle.vital_network.specs.PortNetworks.{port_network, port_signal}
-use Rattle.vital_kernel.specs.PortRuns.{IsPortRun, idle_drivers, port_events_until, port_inits, sent_to}
-use Rattle.vital_kernel.specs.Runs.{IsRunFrom, Run, behind}
-use Rattle.vital_kernel.specs.States.{values}
-use Rattle.vital_signals.specs.declared.signal.Signal.{Signal}
-use Rattle.vital_signals.specs.Events.{quiet_signal}
-use Rattle.vital_kernel.proofs.PortCycles.{AreAt, ports_run}
-use Rattle.vital_kernel.proofs.PortNetworks.{IsPortNet, drivers_are, is_port_net, values_are}
-use Rattle.vital_kernel.proofs.Sends.{sent_rise}
+use Rattle.vital_network.specs.PortNetworks.{port_network}
 
--- ---- the drivers after the initial run
+-- only the first cycle can come at the present time
+record IsAt (s : State) : Type 0 where
+  pub rise : AllRise s.now s.drivers
+  pub first_or_later : (s.delta ≡ 0) ⊎ AllRise (s.now + 1) s.drivers
 
-idle_are : (k : ℕ) (ps : List PortBit) → map (λ d. idle_driver d.initial) (map stimulus_driver (enumerate_from k ps)) ≡ idle_drivers ps
-idle_are k [] = refl
-idle_are k (p ∷ ps) = ap (λ (rest : List Driver). idle_driver (stimulus_driver (k, p)).initial ∷ rest) (idle_are (k + 1) ps)
+-- ---- a cycle of a network without cells
 
-first_are : (n : Network) (ports : List PortBit) → IsPortNet n ports → first_drivers n ≡ idle_drivers ports
-first_are n ports h = ap (map (λ (d : DesignDriver). idle_driver d.initial)) (drivers_are n ports h) ∙ idle_are 0 ports
+cycle_is : (n : Network) (time delta : ℕ) (s : State) → n.cells ≡ [] → cycle_at n time delta s ≡ updated n time delta s
+cycle_is n time delta s none =
+    let no_processes : processes n ≡ [] = ap (λ (cells : List NetCell). flat_map processes_of (enumerate_from 0 cells)) none in
+    ap (λ (ps : List NetProcess). all_activated (filter (is_sensitive_to (new_values n time s)) ps) (updated n time delta s)) no_processes
 
--- the driver of a port has its number
-number_is : (k : ℕ) (ps : List PortBit) (j : ℕ) → j < length ps → position_or_len (λ d. d.signal == k + j) (map stimulus_driver (enumerate_from k ps)) ≡ j
-number_is k [] j lt = absurd (omega (arith, lt))
-number_is k (p ∷ ps) zero lt = rw (eq-eqb k (k + 0) (omega arith)) refl
-number_is k (p ∷ ps) (suc j) lt =
-    let later = number_is (k + 1) ps j (omega (arith, lt)) in
-    let shift : (k + 1) + j ≡ k + suc j = omega arith in
-    let here = subst (λ (i : ℕ). position_or_len (λ d. d.signal == i) (map stimulus_driver (enumerate_from (k + 1) ps)) ≡ j) shift later in
-    rw (ne_eqb k (k + suc j) (omega arith), here) (omega arith)
+at_after : (n : Network) (time delta : ℕ) (s : State) → n.cells ≡ [] → IsAt s → next_time s.drivers ≡ Some time → IsAt (cycle_at n time delta s).state
+at_after n time delta s none at next =
+    let later = all_rise_after time s.drivers (all_rise_next s.now time s.drivers at.rise next) in
+    let updated_at : IsAt (updated n time delta s).state =
+    record { rise = all_rise_lower time (time + 1) (map (advance time) s.drivers) (omega arith) later; first_or_later = inr later } in
+    subst (λ (part : Part). IsAt part.state) (sym (cycle_is n time delta s none)) updated_at
 
-driver_is : (n : Network) (ports : List PortBit) (j : ℕ) → IsPortNet n ports → j < length ports → driver_of_port n j ≡ j
-driver_is n ports j h lt =
-    let from_zero : 0 + j ≡ j = omega arith in
-    ap (position_or_len (λ (d : DesignDriver). d.signal == j)) h.drivers
-    ∙ subst (λ (i : ℕ). position_or_len (λ d. d.signal == i) (map stimulus_driver (enumerate_from 0 ports)) ≡ j) from_zero (number_is 0 ports j lt)
-
--- that of a port that isn't there has the number behind all
-number_behind : (k : ℕ) (ps : List PortBit) (j : ℕ) → length ps ≤ j → position_or_len (λ d. d.signal == k + j) (map stimulus_driver (enumerate_from k ps)) ≡ length ps
-number_behind k [] j le = refl
-number_behind k (p ∷ ps) zero le = absurd (omega (arith, le))
-number_behind k (p ∷ ps) (suc j) le =
-    let later = number_behind (k + 1) ps j (omega (arith, le)) in
-    let shift : (k + 1) + j ≡ k + suc j = omega arith in
-    let here = subst (λ (i : ℕ). position_or_len (λ d. d.signal == i) (map stimulus_driver (enumerate_from (k + 1) ps)) ≡ length ps) shift later in
-    rw (ne_eqb k (k + suc j) (omega arith), here) (omega arith)
-
-driver_behind : (n : Network) (ports : List PortBit) (j : ℕ) → IsPortNet n ports → length ports ≤ j → driver_of_port n j ≡ length ports
-driver_behind n ports j h le =
-    let from_zero : 0 + j ≡ j = omega arith in
-    ap (position_or_len (λ (d : DesignDriver). d.signal == j)) h.drivers
-    ∙ subst (λ (i : ℕ). position_or_len (λ d. d.signal == i) (map stimulus_driver (enumerate_from 0 ports)) ≡ length ports) from_zero (number_behind 0 ports j le)
-
--- no driver has such a number
-changed_behind : (j : ℕ) (f : Driver → Driver) (ds : List Driver) → length ds ≤ j → changed j f ds ≡ ds
-changed_behind j f [] le = refl
-changed_behind zero f (d ∷ ds) le = absurd (omega (arith, le))
-changed_behind (suc j) f (d ∷ ds) le = ap (λ (rest : List Driver). d ∷ rest) (changed_behind j f ds (omega (arith, le)))
-
-pub length-changed : (j : ℕ) (f : Driver → Driver) (ds : List Driver) → length (changed j f ds) ≡ length ds
-length-changed j f [] = refl
-length-changed zero f (d ∷ ds) = refl
-length-changed (suc j) f (d ∷ ds) = ap suc (length-changed j f ds)
-
-changed_is : (n : Network) (ports : List PortBit) (j : ℕ) (f : Driver → Driver) (ds : List Driver) → IsPortNet n ports → length ds ≡ length ports → changed (driver_of_port n j) f ds ≡ changed j f ds
-changed_is n ports j f ds h len =
-    elim (cases_lt j (length ports)) [
-      | inl there ↦ ap (λ (i : ℕ). changed i f ds) (driver_is n ports j h there)
-      | inr behind ↦
-          ap (λ (i : ℕ). changed i f ds) (driver_behind n ports j h behind)
-          ∙ changed_behind (length ports) f ds (omega (arith, len))
-          ∙ sym (changed_behind j f ds (omega (arith, len, behind)))
+-- a cycle at the present time is the first one
+few_deltas : (limit time now delta : ℕ) → 1 < limit → (time ≡ now → delta ≡ 0) → delta_at time now delta < limit
+few_deltas limit time now delta more first =
+    elim (cases_eq time now) [
+      | inl same ↦ rw (eq-eqb time now same) (omega (arith, first same, more))
+      | inr other ↦ rw (ne_eqb time now other) (omega (arith, more))
     ]
 
-sent_are : (n : Network) (ports : List PortBit) (lines : List StimLine) (ds : List Driver) → IsPortNet n ports → length ds ≡ length ports → fold (stimulated n) ds lines ≡ sent_to lines ds
-sent_are n ports [] ds h len = refl
-sent_are n ports (line ∷ lines) ds h len =
-    let one : Driver → Driver = send 0 Transport line.value line.time in
-    ap (λ (drivers : List Driver). fold (stimulated n) drivers lines) (changed_is n ports line.port one ds h len)
-    ∙ sent_are n ports lines (changed line.port one ds) h (length-changed line.port one ds ∙ len)
+first_of_time : (s : State) (time : ℕ) → (s.delta ≡ 0) ⊎ AllRise (s.now + 1) s.drivers → next_time s.drivers ≡ Some time → time ≡ s.now → s.delta ≡ 0
+first_of_time s time (inl zeroth) next same = zeroth
+first_of_time s time (inr later) next same = absurd (omega (arith, same, next_is_above (s.now + 1) time s.drivers later next))
 
-pub length-sent : (lines : List StimLine) (ds : List Driver) → length (sent_to lines ds) ≡ length ds
-length-sent [] ds = refl
-length-sent (line ∷ lines) ds = length-sent lines (changed line.port (send 0 Transport line.value line.time) ds) ∙ length-changed line.port (send 0 Transport line.value line.time) ds
+-- ---- the steps
 
-pub current-changed : (j : ℕ) (value : Level) (delay : ℕ) (ds : List Driver) → currents (changed j (send 0 Transport value delay) ds) ≡ currents ds
-current-changed j value delay [] = refl
-current-changed zero value delay (d ∷ ds) = refl
-current-changed (suc j) value delay (d ∷ ds) = ap (λ (levels : List Level). d.current ∷ levels) (current-changed j value delay ds)
+-- it ends, or a cycle comes
+data Goes (n : Network) (until limit : ℕ) (s : State) : Type 0 where
+  stops : step n until limit s ≡ ended → Goes n until limit s
+  comes : (time delta : ℕ) → next_time s.drivers ≡ Some time → step n until limit s ≡ cycle (cycle_at n time delta s).happened (cycle_at n time delta s).state → Goes n until limit s
 
--- no stimulus changes the value of a driver
-pub current-sent : (lines : List StimLine) (ds : List Driver) → currents (sent_to lines ds) ≡ currents ds
-current-sent [] ds = refl
-current-sent (line ∷ lines) ds = current-sent lines (changed line.port (send 0 Transport line.value line.time) ds) ∙ current-changed line.port line.value line.time ds
+goes_by : (n : Network) (until limit : ℕ) (s : State) (o : Option ℕ) → 1 < limit → IsAt s → o ≡ up_to until (next_time s.drivers) → Goes n until limit s
+goes_by n until limit s None more at e = stops (sym (ap (step_at n limit s) e))
+goes_by n until limit s (Some time) more at e =
+    let next : Next until s time = next_in until s time (next_time s.drivers) refl (sym e) in
+    let few = few_deltas limit time s.now s.delta more (first_of_time s time at.first_or_later next.is) in
+    comes time (delta_at time s.now s.delta) next.is (step_cycle n until limit s time e few)
 
-idle_rise : (ps : List PortBit) → AllRise 0 (idle_drivers ps)
-idle_rise [] = tt
-idle_rise (p ∷ ps) = (tt, idle_rise ps)
+goes : (n : Network) (until limit : ℕ) (s : State) → 1 < limit → IsAt s → Goes n until limit s
+goes n until limit s more at = goes_by n until limit s (up_to until (next_time s.drivers)) more at refl
 
-all_rise_sent : (lines : List StimLine) (ds : List Driver) → AllRise 0 ds → AllRise 0 (sent_to lines ds)
-all_rise_sent [] ds h = h
-all_rise_sent (line ∷ lines) ds h = all_rise_sent lines (changed line.port (send 0 Transport line.value line.time) ds) (sent_rise line.port 0 line.time Transport line.value ds h)
+at_next : (n : Network) (until limit : ℕ) (s next : State) (happened : List Happening) → n.cells ≡ [] → IsAt s → step n until limit s ≡ cycle happened next → Goes n until limit s → IsAt next
+at_next n until limit s next happened none at e (stops f) = absurd cc
+at_next n until limit s next happened none at e (comes time delta is f) =
+    let same : (cycle_at n time delta s).state ≡ next = cc in
+    subst IsAt same (at_after n time delta s none at is)
 
--- ---- the state after the initial run
+never_passes : (n : Network) (until limit time : ℕ) (s : State) → step n until limit s ≡ passed time → Goes n until limit s → ⊥
+never_passes n until limit time s e (stops f) = cc
+never_passes n until limit time s e (comes t delta is f) = cc
 
-quiet_bytes : (levels : List Level) → map (λ (s : Signal). byte_of s.value) (map quiet_signal levels) ≡ map byte_of levels
-quiet_bytes [] = refl
-quiet_bytes (l ∷ levels) = ap (λ (rest : List ℕ). byte_of l ∷ rest) (quiet_bytes levels)
-
-begun_is : (n : Network) (lines : List StimLine) → n.cells ≡ [] → initial_run n lines ≡ after_stimuli n lines
-begun_is n lines none =
-    let no_processes : processes n ≡ [] = ap (λ (cells : List NetCell). flat_map processes_of (enumerate_from 0 cells)) none in
-    ap (λ (ps : List NetProcess). all_activated ps (after_stimuli n lines)) no_processes
-
-begun_drivers : (n : Network) (ports : List PortBit) (lines : List StimLine) → IsPortNet n ports → (after_stimuli n lines).state.drivers ≡ sent_to lines (idle_drivers ports)
-begun_drivers n ports lines h = ap (λ (ds : List Driver). fold (stimulated n) ds lines) (first_are n ports h) ∙ sent_are n ports lines (idle_drivers ports) h (length-map ports _)
-
-first_values : (n : Network) (ports : List PortBit) → IsPortNet n ports → values n (first_drivers n) ≡ currents (idle_drivers ports)
-first_values n ports h =
-    ap (values n) (first_are n ports h) ∙ values_are n ports (idle_drivers ports) h (length-map ports _)
-
-at_first : (n : Network) (ports : List PortBit) (lines : List StimLine) → IsPortNet n ports → AreAt ports (after_stimuli n lines).state
-at_first n ports lines h =
-    let drivers = begun_drivers n ports lines h in
-    record {
-      one_each = ap length drivers ∙ length-sent lines (idle_drivers ports) ∙ length-map ports _;
-      same =
-          ap (λ (levels : List Level). map (λ (s : Signal). byte_of s.value) (map quiet_signal levels)) (first_values n ports h)
-          ∙ quiet_bytes (currents (idle_drivers ports))
-          ∙ sym (ap (map byte_of) (ap currents drivers ∙ current-sent lines (idle_drivers ports)));
-      rise = subst (AllRise 0) (sym drivers) (all_rise_sent lines (idle_drivers ports) (idle_rise ports));
-      first_or_later = inl refl;
-    }
-
--- ---- lines
-
-inits_are : (ps : List PortBit) (ds : List Driver) → flat_map init_line (zip (map port_signal ps) (currents ds)) ≡ port_inits ps ds
-inits_are [] ds = refl
-inits_are (p ∷ ps) [] = refl
-inits_are (p ∷ ps) (d ∷ ds) = ap (λ (rest : List Said). init p.name d.current ∷ rest) (inits_are ps ds)
-
-init_lines_are : (n : Network) (ports : List PortBit) → IsPortNet n ports → init_lines n ≡ port_inits ports (idle_drivers ports)
-init_lines_are n ports h =
-    ap (λ (ss : List NetSignal). flat_map init_line (zip ss (values n (first_drivers n)))) h.signals
-    ∙ ap (λ (levels : List Level). flat_map init_line (zip (map port_signal ports) levels)) (first_values n ports h)
-    ∙ inits_are ports (idle_drivers ports)
+run_ends : {n : Network} {until limit : ℕ} {s last : State} {happened : List Happening} {end : End} → IsRun n until limit s happened last end → 1 < limit → n.cells ≡ [] → IsAt s → end ≡ Ended
+run_ends (ends e) more none at = refl
+run_ends {n} {until} {limit} {s} (passes {time = time} e) more none at = absurd (never_passes n until limit time s e (goes n until limit s more at))
+run_ends {n} {until} {limit} {s} (goes_on {next = next} {happened = happened} e later) more none at =
+    run_ends later more none (at_next n until limit s next happened none at e (goes n until limit s more at))
 
 -- ---- the whole run
+
+at_first : (n : Network) (lines : List StimLine) → IsAt (initial_run n lines).state
+at_first n lines =
+    let kept = initial_keeps n lines in
+    let s = (initial_run n lines).state in
+    record { rise = subst (λ (t : ℕ). AllRise t s.drivers) (sym kept.now_is) kept.rise; first_or_later = inl kept.delta_is }
 
 pub port_run : (ports : List PortBit) (lines : List StimLine) (until limit : ℕ) → 1 < limit → (r : Run) × IsPortRun ports lines until limit r
 port_run ports lines until limit more =
     let n = port_network ports in
-    let is = is_port_net ports in
-    let s = (after_stimuli n lines).state in
-    let drivers = begun_drivers n ports lines is in
-    let later = ports_run (pending_count s.drivers) n ports until limit s more is (at_first n ports lines is) (omega arith) in
-    let told : flat_map (lines_of n) later.run.happened ≡ port_events_until until ports (sent_to lines (idle_drivers ports)) =
-    later.told ∙ ap (port_events_until until ports) drivers in (
-      later.run,
-      record {
-        is = subst (λ (part : Part). (q : Run) × IsRunFrom n until limit part.state q × (later.run ≡ behind part.happened q)) (sym (begun_is n lines is.cells)) (later.run, later.is, refl);
-        ends = later.ends;
-        told =
-            ap (λ (front : List Said). front ++ flat_map (lines_of n) later.run.happened) (init_lines_are n ports is)
-            ∙ ap (λ (back : List Said). port_inits ports (idle_drivers ports) ++ back) told;
-      },
-    )
+    let one = one_whole_run n lines until limit in
+    (one.run, record { is = one.is; ends = ap (λ (r : Run). r.end) one.is.2 ∙ run_ends one.is.1 more refl (at_first n lines) })

@@ -1,15 +1,16 @@
 -- The drivers for the stimuli.
 use Rattle.std.proofs.Common.{◌≡◌, ◌∙◌, ℕ, ◌+◌, ◌^◌, ◌<◌, ◌≤◌, ◌≢◌, zero, suc, true, eqb, List, [], ◌∷◌, ◌++◌, length, map, get_or, set, refl, ap, sym, subst, inl, inr, arith}
 use Rattle.std.specs.List.{fold, list_any, position_or_len}
-use Rattle.std.specs.Prelude.{All, slice_index}
+use Rattle.std.specs.List.Sorted.{IsNonDecreasing}
+use Rattle.std.specs.Prelude.{All, slice_index_or}
 use Rattle.std.proofs.lemmas.Bool.{cases_Bool, eq-eqb, eqb-true, false≢true}
-use Rattle.std.proofs.lemmas.List.{get_or-set_other, get_or-set_same, length-append}
+use Rattle.std.proofs.lemmas.List.{get_or-set_other, get_or-set_same, length-map}
 use Rattle.std.proofs.lemmas.List.Elements.{All-cons, All-head, All-tail}
 use Rattle.vital_agenda.specs.Agendas.{changed}
 use Rattle.vital_agenda.specs.Driver.{Driver, send}
 use Rattle.vital_base.specs.declared.kind.Kind.TheVariants.{Transport}
-use Rattle.vital_kernel.specs.Activations.{AreStimulusDrivers, stimulated_by}
 use Rattle.vital_kernel.specs.Cycles.{stimulated}
+use Rattle.vital_kernel.specs.Handing.{AreLeft, AreStimulusDrivers, stimulated_by, with_lines}
 use Rattle.vital_kernel.specs.Kernels.{IsDriven}
 use Rattle.vital_netlist.specs.declared.design_lists.DesignDriver.{DesignDriver}
 use Rattle.vital_network.specs.Networks.{Network, all_drivers}
@@ -49,36 +50,41 @@ all_back P (x ∷ xs) ys all = all_back P xs ys (All-tail P x (xs ++ ys) all)
 
 -- ---- the lines of the stimuli
 
-pub ports_there : (n : Network) (numbers : List ℕ) (lines : List StimLine) → AreStimulusDrivers n numbers → All (λ d. d.signal < length n.signals) (all_drivers n) → All (IsDriven n) lines
-    → All (λ line. line.port < length numbers) lines
-ports_there n numbers [] are there all = λ k d lt. absurd (omega (arith, lt))
-ports_there n numbers (line ∷ lines) are there all =
-    let driven : IsDriven n line = All-head (IsDriven n) line lines all in
-    let below : line.port < length n.signals = signal_below line.port (length n.signals) n.stimulus_drivers (all_front (λ d. d.signal < length n.signals) n.stimulus_drivers n.cell_drivers there) driven.driver in
-    All-cons (λ x. x.port < length numbers) line lines (omega (arith, below, are.as_many)) (ports_there n numbers lines are there (All-tail (IsDriven n) line lines all))
+-- lines that are in order can be handed from the start on
+left_from : (n : Network) (numbers : List ℕ) (low : ℕ) (lines : List StimLine) → AreStimulusDrivers n numbers → All (λ d. d.signal < length n.signals) (all_drivers n) → All (λ line. low ≤ line.time) lines
+    → All (IsDriven n) lines → IsNonDecreasing (map (λ line. line.time) lines) → AreLeft numbers (length n.stimulus_drivers) low lines
+left_from n numbers low [] are there above driven order = tt
+left_from n numbers low (line ∷ lines) are there above driven order =
+    let first : IsDriven n line = All-head (IsDriven n) line lines driven in
+    let port : line.port < length n.signals = signal_below line.port (length n.signals) n.stimulus_drivers (all_front (λ d. d.signal < length n.signals) n.stimulus_drivers n.cell_drivers there) first.driver in
+    let driver = position_below line.port n.stimulus_drivers first.driver in (
+      record { port = omega (arith, port, are.as_many); driver = omega (arith, driver, are.first line.port first.driver); time = first.time },
+      above 0 line (omega arith),
+      left_from n numbers line.time lines are there (behind line lines order) (All-tail (IsDriven n) line lines driven) (λ i j d le lt. order (suc i) (suc j) d (omega (arith, le)) (omega (arith, lt))),
+    )
+  where
+    time_at : (lines : List StimLine) (k : ℕ) (d : StimLine) → slice_index_or (map (λ line. line.time) lines) k d.time ≡ (slice_index_or lines k d).time
+    time_at [] k d = refl
+    time_at (line ∷ lines) zero d = refl
+    time_at (line ∷ lines) (suc k) d = time_at lines k d
 
-pub drivers_there : (n : Network) (numbers : List ℕ) (lines : List StimLine) (count : ℕ) → AreStimulusDrivers n numbers → length (all_drivers n) ≡ count → All (IsDriven n) lines
-    → All (λ line. slice_index numbers line.port < count) lines
-drivers_there n numbers [] count are same all = λ k d lt. absurd (omega (arith, lt))
-drivers_there n numbers (line ∷ lines) count are same all =
-    let driven : IsDriven n line = All-head (IsDriven n) line lines all in
-    let below = position_below line.port n.stimulus_drivers driven.driver in
-    let is = are.first line.port driven.driver in
-    All-cons (λ x. slice_index numbers x.port < count) line lines (omega (arith, below, is, same, length-append n.stimulus_drivers n.cell_drivers))
-    (drivers_there n numbers lines count are same (All-tail (IsDriven n) line lines all))
+    behind : (line : StimLine) (lines : List StimLine) → IsNonDecreasing (map (λ l. l.time) (line ∷ lines)) → All (λ l. line.time ≤ l.time) lines
+    behind line lines order k d lt =
+        let later = order 0 (suc k) d.time (omega arith) (omega (arith, lt, length-map lines (λ (l : StimLine). l.time))) in
+        rw (time_at lines k d) at later
 
-pub times_there : (n : Network) (lines : List StimLine) → All (IsDriven n) lines → All (λ line. line.time ≤ 2 ^ 60) lines
-times_there n lines all = λ k d lt. (all k d lt).time
+pub all_left : (n : Network) (numbers : List ℕ) (lines : List StimLine) → AreStimulusDrivers n numbers → All (λ d. d.signal < length n.signals) (all_drivers n) → All (IsDriven n) lines
+    → IsNonDecreasing (map (λ line. line.time) lines) → AreLeft numbers (length n.stimulus_drivers) 0 lines
+all_left n numbers lines are there driven order = left_from n numbers 0 lines are there (λ k d lt. omega arith) driven order
 
 pub lines_assigned : (n : Network) (numbers : List ℕ) (lines : List StimLine) (ds : List Driver) → AreStimulusDrivers n numbers → All (IsDriven n) lines
-    → fold (stimulated_by numbers) ds lines ≡ fold (stimulated n) ds lines
+    → with_lines numbers lines ds ≡ fold (stimulated n) ds lines
 lines_assigned n numbers [] ds are all = refl
 lines_assigned n numbers (line ∷ lines) ds are all =
     let driven : IsDriven n line = All-head (IsDriven n) line lines all in
     let one : stimulated_by numbers ds line ≡ stimulated n ds line =
     ap (λ (k : ℕ). changed k (send 0 Transport line.value line.time) ds) (are.first line.port driven.driver) in
-    ap (λ (x : List Driver). fold (stimulated_by numbers) x lines) one
-    ∙ lines_assigned n numbers lines (stimulated n ds line) are (All-tail (IsDriven n) line lines all)
+    ap (with_lines numbers lines) one ∙ lines_assigned n numbers lines (stimulated n ds line) are (All-tail (IsDriven n) line lines all)
 
 -- ---- the numbers of the drivers
 

@@ -1,10 +1,8 @@
 -- What a part of a run does to the parts of a simulation: its agenda, its signals, its processes and its printer.
-use Rattle.std.specs.Prelude.{◌≡◌, ◌≤◌, ◌^◌, ◌==◌, ℕ, true, List, [], length, slice_get, slice_index, unwrap_or, OnOk, Result, if◌then◌else◌}
-use Rattle.std.specs.List.{flat_map, list_any, position_or_len}
+use Rattle.std.specs.Prelude.{◌≡◌, ◌≤◌, ◌^◌, ℕ, List, [], length, slice_get, unwrap_or, OnOk, Result, if◌then◌else◌}
+use Rattle.std.specs.List.{flat_map}
 use Rattle.std.specs.Option.{option_map, option_map_or}
-use Rattle.vital_agenda.specs.Agendas.{Content, changed}
-use Rattle.vital_agenda.specs.Driver.{Driver, send}
-use Rattle.vital_base.specs.declared.kind.Kind.TheVariants.{Transport}
+use Rattle.vital_agenda.specs.Agendas.{Content}
 use Rattle.vital_execution.specs.Variables.{Slot}
 use Rattle.vital_kernel.specs.Cycles.{Happening, Part, all_activated}
 use Rattle.vital_kernel.specs.Lines.{lines_of}
@@ -21,7 +19,6 @@ use Rattle.vital_report.specs.Reporters.{PrinterState, PrintsPart}
 use Rattle.vital_report.specs.declared.print_error.PrintError.{PrintError}
 use Rattle.vital_signals.specs.SignalStates.{AreCurrent, SignalState}
 use Rattle.vital_signals.specs.declared.signal.Signal.{Signal}
-use Rattle.vital_stim.specs.declared.stimuli.StimLine.{StimLine}
 use Rattle.vital_typed_cells.specs.Bits.{names_of}
 use Rattle.vital_typed_cells.specs.declared.typed_cell.TypedCell.{TypedCell}
 
@@ -88,15 +85,3 @@ pub record CanRun (n : Network) (content : Content) (seen : SignalState) (proces
 pub record Activates (result : Result Unit PrintError) (n : Network) (ps : List NetProcess) (before after : State) (old new : PrinterState) : Type 0 where
   pub state : OnOk result (after ≡ (all_activated ps (from_state before)).state)
   pub prints : PrintsPart result (text_in n (all_activated ps (from_state before)).happened) old new
-
--- ---- stimuli
-
--- For each signal the number of its first driver for the stimuli, if it has one.
-pub record AreStimulusDrivers (n : Network) (numbers : List ℕ) : Type 0 where
-  pub as_many : length numbers ≡ length n.signals
-  pub first : (port : ℕ) → list_any (λ driver. driver.signal == port) n.stimulus_drivers ≡ true
-      → slice_index numbers port ≡ position_or_len (λ driver. driver.signal == port) n.stimulus_drivers
-
--- A line of the stimuli by these numbers.
-abbrev pub stimulated_by : List ℕ → List Driver → StimLine → List Driver
-stimulated_by numbers drivers line = changed (slice_index numbers line.port) (send 0 Transport line.value line.time) drivers

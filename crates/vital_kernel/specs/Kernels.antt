@@ -1,14 +1,15 @@
 -- A simulation that stands somewhere in its run, and what a call does that goes on with it.
 use Rattle.std.specs.Prelude.{◌≡◌, ◌==◌, ◌-◌, ◌<◌, ◌≤◌, ◌^◌, ℕ, All, Bool, true, false, List, [], length, map, take, Result, Ok, Err, ⊤, if◌then◌else◌}
 use Rattle.std.specs.List.{flat_map, list_any}
-use Rattle.vital_kernel.specs.Activations.{AreStimulusDrivers}
+use Rattle.std.specs.List.Sorted.{IsNonDecreasing}
 use Rattle.vital_kernel.specs.Cycles.{Happening, first_state, initial_run}
+use Rattle.vital_kernel.specs.Handing.{AreLeft, AreStimulusDrivers, with_lines}
 use Rattle.vital_kernel.specs.Lines.{lines_of, run_lines}
 use Rattle.vital_kernel.specs.Runs.{DeltaPassed, Ended, IsRunFrom, IsWholeRun, Run}
 use Rattle.vital_kernel.specs.States.{State}
 use Rattle.vital_kernel.specs.declared.run_error.RunError.{RunError}
 use Rattle.vital_kernel.specs.declared.run_error.RunError.TheVariants as error
-use Rattle.vital_listeners.specs.Triggered.{ListenerState}
+use Rattle.vital_processes.specs.Triggered.{ListenerState}
 use Rattle.vital_network.specs.Networks.{Network, all_drivers, processes as processes', sensitivity}
 use Rattle.vital_processes.specs.Processes.{ProcessStates}
 use Rattle.vital_report.specs.Lines.{Said, text_of}
@@ -61,8 +62,16 @@ pub record IsDriven (n : Network) (line : StimLine) : Type 0 where
 
 -- ---- how the code keeps it
 
--- The parts of a simulation are those of its network with its stimuli, in the state in which it stands.
-pub record AreParts (k : Simulation) (numbers : List ℕ) (most_due : ℕ) (signals : SignalState) (processes : ProcessStates) (listeners : ListenerState) : Type 0 where
+-- A state with lines that are still to be handed, as if they had been assigned in the initial run.
+abbrev pub state_with : List ℕ → List StimLine → State → State
+state_with numbers left s = record s { drivers = with_lines numbers left s.drivers }
+
+-- A simulation with them.
+abbrev pub simulation_with : List ℕ → List StimLine → Simulation → Simulation
+simulation_with numbers left k = record k { state = state_with numbers left k.state }
+
+-- The parts of a simulation are those of its network with its stimuli, in the state in which it stands without the lines that are left.
+pub record AreParts (k : Simulation) (numbers : List ℕ) (left : List StimLine) (most_due : ℕ) (signals : SignalState) (processes : ProcessStates) (listeners : ListenerState) : Type 0 where
   -- Signals, the processes that are sensitive to them, all processes, and the drivers for the stimuli are those of the network.
   pub defaults : signals.defaults ≡ map (λ s. s.initial) k.network.signals
   pub signals_of : signals.signals_of ≡ map (λ d. d.signal) (all_drivers k.network)
@@ -70,15 +79,18 @@ pub record AreParts (k : Simulation) (numbers : List ℕ) (most_due : ℕ) (sign
   pub sensitivities : listeners.sensitivities ≡ map sensitivity (processes' k.network)
   pub network : processes.network ≡ k.network
   pub stimulated : AreStimulusDrivers k.network numbers
+  -- Each line is driven, and they are in order. Those that are left can be handed from the present on.
   pub driven : All (IsDriven k.network) k.lines
+  pub in_order : IsNonDecreasing (map (λ line. line.time) k.lines)
+  pub to_hand : AreLeft numbers (length k.network.stimulus_drivers) k.state.now left
   -- The signals have the values of the drivers, which have room in the list of those that are due.
   pub current : AreCurrent signals k.state.drivers
   pub room : length k.state.drivers ≤ most_due
   -- No process ran later, and the delta number can be counted on.
   pub latest : processes.latest ≤ k.state.now
   pub delta : k.state.delta < 2 ^ 64 - 1
-  -- Before the initial run nothing was done.
-  pub first : k.is_begun ≡ false → k.state ≡ first_state k.network
+  -- Before the initial run nothing was done, and no line is left.
+  pub first : k.is_begun ≡ false → (k.state ≡ first_state k.network) × (left ≡ [])
 
 -- A simulation after its initial run, where that was still to come, and the text of this.
 abbrev pub begun : Simulation → Simulation

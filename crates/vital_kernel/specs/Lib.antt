@@ -4,5 +4,6 @@ pub mod Runs
 pub mod Lines
 pub mod PortRuns
 pub mod RunErrors
+pub mod Handing
 pub mod Kernels
 pub mod Activations

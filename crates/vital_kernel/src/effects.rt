@@ -8,7 +8,7 @@ ghost use Rattle.vital_machine.specs.Fits.{EffectIsOfCell, EndsInTime};
 ghost use Rattle.vital_network.specs.DesignNetworks.{driver_count};
 ghost use Rattle.vital_network.specs.Networks.{lent_cell};
 ghost use Rattle.vital_report.specs.Reporters.{PrintsPart};
-ghost use Rattle.vital_sound.specs.Sound.{bit_count};
+ghost use Rattle.vital_typed_cells.specs.Sound.{bit_count};
 
 use crate::printing::{print_glitch, print_violation};
 use vital_agenda::Agenda;

@@ -1,6 +1,7 @@
 //! A simulation of a network.
 
-ghost use Rattle.std.specs.Prelude.{◌≡◌, ◌-◌, ◌^◌, ◌<◌, ◌≤◌, All, IfOk, OnOk, Some, false, true};
+ghost use Rattle.std.specs.Prelude.{◌≡◌, ◌-◌, ◌^◌, ◌<◌, ◌≤◌, All, IfOk, OnOk, Some, false, map, true};
+ghost use Rattle.std.specs.List.Sorted.{IsNonDecreasing};
 ghost use Rattle.vital_agenda.specs.Driver.{AllRise, next_time};
 ghost use Rattle.vital_kernel.specs.Activations.{text_in};
 ghost use Rattle.vital_kernel.specs.Cycles.{cycle_at, first_state, initial_run};
@@ -14,24 +15,26 @@ use crate::activation::{run_all, run_some};
 use crate::first::{first_signals, first_values};
 use crate::printing::{print_events, print_inits};
 use crate::run_error::RunError;
-use crate::stimuli::{assign_stimuli, stimulus_drivers};
+use crate::stimuli::{first_time, hand_due, sooner, stimulus_drivers};
 use std::alloc::{AllocError, Global};
 use std::marker::Model;
 use vital_agenda::{Agenda, Due};
 use vital_base::{Sink, Time};
-use vital_listeners::Listeners;
 use vital_network::Network;
-use vital_processes::Processes;
+use vital_processes::{Listeners, Processes};
 use vital_report::{PrintError, Printer};
 use vital_signals::Signals;
 use vital_stim::StimLine;
 
-/// A simulation of a network with stimuli, by any agenda (IEEE 1076-1993, 12.6.4). Contracts see it as what is simulated and the state in
-/// which it stands.
+/// A simulation of a network with stimuli, by any agenda (IEEE 1076-1993, 12.6.4). A line of the stimuli is handed to the agenda when the cycle
+/// at its time comes, so that little is pending at once. Contracts see it as what is simulated and the state in which it stands, with all
+/// lines assigned in the initial run.
 #[derive(Drop)]
 pub struct Kernel<'a, A: Agenda> {
     network: &'a Network<'a>,
     lines: &'a [StimLine],
+    /// The lines that are still to be handed: none before the initial run.
+    left: &'a [StimLine],
     /// For each signal the number of its driver for the stimuli; 0 where it has none.
     stimulus_drivers: Vec<u32>,
     agenda: A,
@@ -45,7 +48,7 @@ pub struct Kernel<'a, A: Agenda> {
 
 impl<'a, A: Agenda> Model for Kernel<'a, A> {
     ghost use Rattle.std.specs.Coded.{codes};
-    ghost use Rattle.vital_kernel.specs.Kernels.{AreParts, Simulation};
+    ghost use Rattle.vital_kernel.specs.Kernels.{AreParts, Simulation, simulation_with};
     ghost use Rattle.vital_netlist.specs.contracts.design_lists.DesignDriver as driver;
     ghost use Rattle.vital_network.specs.contracts.network.NetSignal as signal;
     ghost use Rattle.vital_timing.specs.contracts.delay.Delay as delay;
@@ -55,7 +58,7 @@ impl<'a, A: Agenda> Model for Kernel<'a, A> {
 
     ghost coded = { Prim.hlevel (codes, driver.the_row.coded, signal.the_row.coded, delay.the_row.coded, tree.the_row.coded) };
 
-    ghost view = { λ k. record {
+    ghost view = { λ k. simulation_with k.stimulus_drivers.items k.left.now (record {
       network = k.network.now;
       lines = k.lines.now;
       is_begun = k.is_begun;
@@ -66,7 +69,7 @@ impl<'a, A: Agenda> Model for Kernel<'a, A> {
         signals = k.signals.signals;
         variables = k.processes.variables;
       };
-    } };
+    }) };
 
     ghost invariant = { λ k. AreParts (record {
       network = k.network.now;
@@ -79,18 +82,19 @@ impl<'a, A: Agenda> Model for Kernel<'a, A> {
         signals = k.signals.signals;
         variables = k.processes.variables;
       };
-    }) k.stimulus_drivers.items k.due.room k.signals k.processes k.listeners };
+    }) k.stimulus_drivers.items k.left.now k.due.room k.signals k.processes k.listeners };
 }
 
 impl<'a, A: Agenda> Kernel<'a, A> {
-    /// The simulation of a network with stimuli, each line of which is for a port with a driver. The initial run is still to come. It takes
-    /// time and memory in proportion to the network, and all memory but that of pending transactions.
+    /// The simulation of a network with stimuli, each line of which is for a port with a driver, in the order of their times. The initial run is
+    /// still to come. It takes time and memory in proportion to the network, and all memory but that of pending transactions.
     pub fn start(
         alloc: Global,
         network: &'a Network<'a>,
         lines: &'a [StimLine],
     ) -> Result<Kernel<'a, A>, AllocError>
-        requires { All (IsDriven network.now) lines.now }
+        requires driven { All (IsDriven network.now) lines.now }
+        requires in_order { IsNonDecreasing (map (λ line. line.time) lines.now) }
         ensures { IfOk result (λ k. k ≡ record { network = network.now; lines = lines.now; is_begun = false; state = first_state network.now }) }
     {
         let initial = first_values(alloc, network)?;
@@ -103,6 +107,7 @@ impl<'a, A: Agenda> Kernel<'a, A> {
         Ok(Kernel {
             network,
             lines,
+            left: &[],
             stimulus_drivers,
             agenda,
             due,
@@ -143,21 +148,20 @@ impl<'a, A: Agenda> Kernel<'a, A> {
         if self.is_begun {
             return Ok(());
         }
-        self.is_begun = true;
         self.run_first(printer)
     }
 
-    /// Does the initial run, where nothing was done before.
+    /// Does the initial run, where nothing was done before. From it on all lines are to be handed.
     fn run_first<K: Sink>(&mut self, printer: &mut Printer<'_, K>) -> Result<(), PrintError>
-        requires begun { self.old.is_begun ≡ true }
-        requires first { self.old.state ≡ first_state self.old.network }
+        requires first { self.old.is_begun ≡ false }
         requires goes_on { printer.old.stopped ≡ false }
-        ensures after { let first = initial_run self.old.network self.old.lines in OnOk result (self.new ≡ record self.old { state = first.state }) }
+        ensures after { let first = initial_run self.old.network self.old.lines in OnOk result (self.new ≡ record self.old { is_begun = true; state = first.state }) }
         ensures prints { let first = initial_run self.old.network self.old.lines in
             PrintsPart result (text_of (run_lines self.old.network first.happened)) printer.old printer.new }
     {
+        self.is_begun = true;
+        self.left = self.lines;
         print_inits(self.network.signals(), &self.signals, printer)?;
-        assign_stimuli(&self.stimulus_drivers, self.lines, &mut self.agenda)?;
         run_all(
             self.network,
             &self.signals,
@@ -195,7 +199,7 @@ impl<'a, A: Agenda> Kernel<'a, A> {
         ensures next { result ≡ up_to until (next_time self.now.state.drivers) }
         ensures rise { AllRise self.now.state.now self.now.state.drivers }
     {
-        match self.agenda.next_time() {
+        match sooner(self.agenda.next_time(), first_time(self.left)) {
             Some(time) if time <= until => Some(time),
             _ => None,
         }
@@ -212,8 +216,8 @@ impl<'a, A: Agenda> Kernel<'a, A> {
         }
     }
 
-    /// Runs the next cycle, which comes at a time and has a delta number: transactions that are due become values, signals get theirs, and
-    /// the processes run that are sensitive to a signal with an event.
+    /// Runs the next cycle, which comes at a time and has a delta number: lines at this time are handed, transactions that are due become
+    /// values, signals get theirs, and the processes run that are sensitive to a signal with an event.
     fn run_cycle<K: Sink>(
         &mut self,
         time: Time,
@@ -230,10 +234,12 @@ impl<'a, A: Agenda> Kernel<'a, A> {
         ensures prints { let part = cycle_at self.old.network time delta self.old.state in
             PrintsPart result (text_in self.old.network part.happened) printer.old printer.new }
     {
+        let watched = self.network.signals();
+        self.left = hand_due(&self.stimulus_drivers, self.left, time, &mut self.agenda)?;
         self.agenda.advance(&mut self.due);
         self.signals.update(&self.agenda, &self.due);
         self.delta = delta;
-        print_events(self.network.signals(), &self.signals, time, delta, printer)?;
+        print_events(watched, &self.signals, time, delta, printer)?;
         self.listeners.trigger(self.signals.events());
         run_some(
             self.network,

@@ -28,7 +28,7 @@ pub fn ports_are_a_design()
         → ((i : ℕ) → i < length ports → is_stimulated lines i ≡ true) → IsOfDesign ports lines }
 {}
 
-/// The run of ports alone, in which cycles of delta number 1 may begin, ends and is that of their drivers: a law, called for its clause.
+/// The run of ports alone, in which cycles of delta number 1 may begin, ends: a law, called for its clause.
 pub fn port_run()
     ensures { (ports : List PortBit) (lines : List StimLine) (until limit : ℕ) → 1 < limit → (r : Run) × IsPortRun ports lines until limit r }
 {}

@@ -7,7 +7,7 @@ ghost use Rattle.vital_kernel.specs.Activations as spec;
 ghost use Rattle.vital_network.specs.Networks.{lent_cell};
 ghost use Rattle.vital_report.specs.Lines.{bytes_of, glitch as glitch', violation as violation'};
 ghost use Rattle.vital_report.specs.Reporters.{Prints};
-ghost use Rattle.vital_sound.specs.Sound.{bit_count};
+ghost use Rattle.vital_typed_cells.specs.Sound.{bit_count};
 
 use vital_base::{Sink, Time, WriteFault};
 use vital_logic::Level;

@@ -5,7 +5,7 @@ use Rattle.vital_kernel.proofs.Steps.{if_some_at}
 use Rattle.vital_machine.specs.Fits.{EffectIsOfCell, EndsInTime}
 use Rattle.vital_network.specs.DesignNetworks.{driver_count}
 use Rattle.vital_network.specs.Networks.{NetCell, NetProcess, Network, lent_cell, processes}
-use Rattle.vital_sound.specs.Sound.{bit_count}
+use Rattle.vital_typed_cells.specs.Sound.{bit_count}
 use Rattle.vital_kernel.proofs.activation.run_process.Goals as goal
 
 pub run-requires-clause-there : goal.run-requires-clause-there

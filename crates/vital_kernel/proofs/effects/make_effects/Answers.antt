@@ -13,7 +13,7 @@ use Rattle.vital_machine.specs.Fits.{EffectIsOfCell, EndsInTime}
 use Rattle.vital_network.specs.DesignNetworks.{driver_count}
 use Rattle.vital_network.specs.Networks.{lent_cell}
 use Rattle.vital_report.specs.Reporters.{Printed}
-use Rattle.vital_sound.specs.Sound.{bit_count}
+use Rattle.vital_typed_cells.specs.Sound.{bit_count}
 use Rattle.vital_kernel.proofs.effects.make_effects.Goals as goal
 
 pub loop-number-init : goal.loop-number-init

@@ -1,11 +1,11 @@
-use Rattle.std.proofs.Common.{◌≡◌, ◌∙◌, false, length, ap, sym, subst, arith}
+use Rattle.std.proofs.Common.{◌≡◌, ◌∙◌, false, length, refl, ap, sym, subst, arith}
 use Rattle.std.proofs.lemmas.List.{length-map}
 use Rattle.vital_agenda.specs.Agendas.{Content, idle, idle_driver}
 use Rattle.vital_agenda.specs.DueLists.{DueList}
 use Rattle.vital_kernel.specs.Kernels.{Simulation}
 use Rattle.vital_kernel.specs.States.{State}
 use Rattle.vital_kernel.proofs.FirstLemmas.{starts}
-use Rattle.vital_listeners.specs.Triggered.{ListenerState}
+use Rattle.vital_processes.specs.Triggered.{ListenerState}
 use Rattle.vital_processes.specs.Processes.{ProcessStates}
 use Rattle.vital_signals.specs.SignalStates.{AreCurrent, SignalState}
 use Rattle.vital_kernel.proofs.kernel.Kernel.start.Goals as goal
@@ -32,7 +32,9 @@ invariant_of-result g c =
       sensitivities = ap (λ (x : ListenerState). x.sensitivities) c.in_ok-listeners.ensures;
       network = ap (λ (x : ProcessStates). x.network) c.in_ok-processes.ensures.first;
       stimulated = c.in_ok-stimulus_drivers.ensures;
-      driven = c.requires;
+      driven = c.requires.driven;
+      in_order = c.requires.in_order;
+      to_hand = tt;
       current = subst (λ (x : Content). AreCurrent c.in_ok-signals.signals x.drivers) (sym is) c.in_ok-signals.ensures.current;
       room =
           omega (
@@ -46,7 +48,7 @@ invariant_of-result g c =
           );
       latest = omega (arith, ap (λ (x : ProcessStates). x.latest) c.in_ok-processes.ensures.first);
       delta = omega arith;
-      first = λ e. starts n content c.in_ok-signals.signals c.in_ok-processes.processes c.deref.result.now (c.deref.ensures.value ∙ c.in_ok-initial.ensures) is c.in_ok-signals.ensures.first c.in_ok-processes.ensures.first;
+      first = λ e. (starts n content c.in_ok-signals.signals c.in_ok-processes.processes c.deref.result.now (c.deref.ensures.value ∙ c.in_ok-initial.ensures) is c.in_ok-signals.ensures.first c.in_ok-processes.ensures.first, refl);
     }
 
 pub returns : goal.returns

@@ -1,7 +1,8 @@
 use Rattle.std.proofs.Common.{◌≡◌, drop}
 use Rattle.std.specs.List.{fold}
-use Rattle.vital_kernel.specs.Activations.{KeepsValues, stimulated_by}
-use Rattle.vital_kernel.proofs.stimuli.assign_stimuli.Given as goal
+use Rattle.vital_kernel.specs.Activations.{KeepsValues}
+use Rattle.vital_kernel.specs.Handing.{stimulated_by}
+use Rattle.vital_kernel.proofs.stimuli.assign_lines.Given as goal
 
 abbrev pub invariant-loop-line : goal.invariant-loop-line
 invariant-loop-line g l =
