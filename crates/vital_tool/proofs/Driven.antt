@@ -1,34 +1,20 @@
 -- The bits of the ports of a design, and their drivers for stimuli: each line of stimuli is for a port with a driver.
-use Rattle.std.proofs.Common.{◌≡◌, ℕ, zero, suc, ◌+◌, ◌<◌, ◌≤◌, ◌^◌, true, false, List, [], ◌∷◌, filter, length, map, take, get_or, refl, sym, ap, subst, ◌∙◌, arith}
+use Rattle.std.proofs.Common.{◌≡◌, ℕ, zero, suc, ◌+◌, ◌<◌, ◌≤◌, true, false, List, [], ◌∷◌, filter, length, map, get_or, refl, sym, ap, subst, ◌∙◌, arith}
 use Rattle.std.specs.Prelude.{Bool, ◌==◌, ◌||◌, cond, All}
 use Rattle.std.specs.List.{enumerate_from, list_any}
 use Rattle.std.proofs.lemmas.Bool.{eq-eqb, eqb-true}
-use Rattle.std.proofs.lemmas.List.{length-map}
 use Rattle.vital_base.specs.declared.ports.PortBit.{PortBit}
 use Rattle.vital_base.specs.declared.watch.Watch.{Watch}
 use Rattle.vital_kernel.specs.Kernels.{IsDriven}
 use Rattle.vital_netlist.specs.Designs.{Design}
-use Rattle.vital_netlist.specs.Soundness.{IsSoundDesign, signal_bit_name}
 use Rattle.vital_netlist.specs.declared.design_lists.DesignDriver.{DesignDriver}
 use Rattle.vital_network.specs.DesignNetworks.{is_stimulated, network, stimulus_driver, stimulus_drivers}
 use Rattle.vital_network.specs.Networks.{Network}
+use Rattle.vital_network.specs.PortNetworks.{port_network}
 use Rattle.vital_stim.specs.Stimuli.{Fits}
 use Rattle.vital_stim.specs.declared.stimuli.StimLine.{StimLine}
 use Rattle.vital_stim.specs.declared.stimuli.Stimuli.{Stimuli}
 use Rattle.vital_timing.specs.declared.delay.Delay.{Delay}
-
--- ---- there are few ports
-
-take_within : {A : Type 0} (n : ℕ) (xs : List A) → length (take n xs) ≤ length xs
-take_within zero xs = omega arith
-take_within (suc n) [] = omega arith
-take_within (suc n) (x ∷ xs) = omega (arith, take_within n xs)
-
-pub few_ports : (d : Design) → IsSoundDesign d → length d.ports < 2 ^ 32
-few_ports d s =
-    let same : length d.ports ≡ length (take (length d.ports) d.signals) =
-    sym (length-map d.ports (λ p. p.name)) ∙ ap length s.ports_first ∙ length-map (take (length d.ports) d.signals) signal_bit_name in
-    omega (arith, same, take_within (length d.ports) d.signals, s.few_signals)
 
 -- ---- drivers
 
@@ -64,6 +50,11 @@ kept_is_driven q (p ∷ ports) k port from upto kept =
         let apart : k ≡ port → ⊥ = λ same. (let is : (k == port) ≡ true = eq-eqb k port same in cc) in
         by_kept here (later (omega (arith, from, apart)))
 
+-- all of them, where each is kept
+all_kept : {A : Type 0} (xs : List A) → filter (λ x. true) xs ≡ xs
+all_kept [] = refl
+all_kept {A = A} (x ∷ xs) = ap (λ (ys : List A). x ∷ ys) (all_kept xs)
+
 -- the port of a line among some is named by a line
 named : (lines : List StimLine) (i : ℕ) (d : StimLine) → i < length lines → is_stimulated lines (get_or lines i d).port ≡ true
 named [] i d within = absurd (omega (arith, within))
@@ -86,3 +77,13 @@ design_is_driven d n stimuli values lines watch made same ports fit =
     let drivers : n.stimulus_drivers ≡ stimulus_drivers stimuli.ports stimuli.lines =
     ap (λ (x : Network). x.stimulus_drivers) made ∙ ap (stimulus_drivers d.ports) same ∙ ap (λ (ps : List PortBit). stimulus_drivers ps stimuli.lines) (sym ports) in
     subst (λ (ls : List StimLine). All (IsDriven n) ls) (sym same) (lines_are_driven n stimuli drivers fit)
+
+-- the same in the network of ports alone
+pub ports_are_driven : (n : Network) (stimuli : Stimuli) (lines : List StimLine) → n ≡ port_network stimuli.ports → lines ≡ stimuli.lines → All (Fits stimuli) stimuli.lines → All (IsDriven n) lines
+ports_are_driven n stimuli lines made same fit = subst (λ (ls : List StimLine). All (IsDriven n) ls) (sym same) (λ i d within.
+    let line = get_or stimuli.lines i d in
+    let fits = fit i d within in
+    let kept = kept_is_driven (λ i. true) stimuli.ports 0 line.port (omega arith) (omega (arith, fits.there)) refl in
+    let drivers : map stimulus_driver (filter (λ p. true) (enumerate_from 0 stimuli.ports)) ≡ n.stimulus_drivers =
+    ap (map stimulus_driver) (all_kept (enumerate_from 0 stimuli.ports)) ∙ sym (ap (λ (x : Network). x.stimulus_drivers) made) in
+    record { driver = subst (λ (ds : List DesignDriver). drives line.port ds ≡ true) drivers kept; time = omega (arith, fits.in_time) })

@@ -8,7 +8,7 @@ use Rattle.vital_instances.specs.declared.fault.InstancesError.TheVariants as er
 use Rattle.vital_instances.specs.declared.instance.Instance.{Instance}
 use Rattle.vital_instances.specs.Designs.{AreEntered}
 use Rattle.vital_instances.specs.Faults.{lent}
-use Rattle.vital_instances.specs.Instances.{IsInstances, instances}
+use Rattle.vital_instances.specs.Instances.{IsInstances}
 use Rattle.vital_instances.specs.Judges.{IsJudge, Judge}
 use Rattle.vital_netlist.specs.declared.net_fault.ElabError.{ElabError}
 use Rattle.vital_netlist.specs.declared.net_fault.ElabError.TheVariants as elab

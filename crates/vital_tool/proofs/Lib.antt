@@ -1,8 +1,4 @@
-pub mod CycleStates
 pub mod Texts
-pub mod Sending
-pub mod Handing
-pub mod DueText
 pub mod Printing
 pub mod Finishing
 pub mod Refusing
@@ -13,7 +9,6 @@ pub mod OneAnswer
 pub mod Rows
 pub mod FilesRead
 pub mod Parts
-pub mod CyclesLeft
 pub mod NetworkRuns
 pub mod Driven
 pub mod Delays

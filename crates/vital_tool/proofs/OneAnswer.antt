@@ -8,6 +8,7 @@ use Rattle.vital_netlist.specs.Designs.{Design}
 use Rattle.vital_netlist.specs.Elaboration.{Fault as NetFault, elaborated}
 use Rattle.vital_netlist.specs.Refusals.{refused as refused_as}
 use Rattle.vital_network.specs.Networks.{Network}
+use Rattle.vital_network.specs.PortNetworks.{port_network}
 use Rattle.vital_instances.specs.Judges.{IsJudge, Judge}
 use Rattle.vital_level0.specs.Breaches.{HasOneFirst}
 use Rattle.vital_library.specs.Faults.{least_of, faults}
@@ -46,7 +47,7 @@ use Rattle.vital_tool.specs.declared.status.Status.TheVariants.{Done, NoMemory}
 use Rattle.vital_tool.proofs.Checked.{is_answer}
 use Rattle.vital_tool.proofs.Elaborated.{elaborated_by}
 use Rattle.vital_tool.proofs.Judged.{some_finding}
-use Rattle.vital_tool.proofs.OneRun.{OneRun, only_told, run_told, said_of, stimuli_answer, stimuli_said, told_of}
+use Rattle.vital_tool.proofs.OneRun.{OneRun, only_told, run_told, stimuli_told, told_of, told_of_stimuli}
 use Rattle.vital_tool.proofs.Texts.{appended-nil}
 use Rattle.vital_vhdl.specs.Outcomes.{IsReading}
 use Rattle.vital_vhdl.specs.declared.read.UnitError.{UnitError}
@@ -145,7 +146,10 @@ one_run_answer runs n lines until limit =
     (told_of n until limit one.run, run_told n lines until limit one, only_told n lines until limit one)
 
 one_stimuli_answer : OneRun → (until : ℕ) (stimuli : Stimuli) → IsOne (IsStimuliAnswer until stimuli)
-one_stimuli_answer one until stimuli = (said_of until stimuli, stimuli_said one until stimuli, stimuli_answer one until stimuli)
+one_stimuli_answer runs until stimuli =
+    let n = port_network stimuli.ports in
+    let one = runs.one n stimuli.lines until 1_000 in
+    (told_of n until 1_000 one.run, stimuli_told runs until stimuli, λ other o. only_told n stimuli.lines until 1_000 one other (told_of_stimuli until stimuli other o))
 
 one_read_stimuli : OneRun → (name : List ℕ) (until : ℕ) (read : Result Stimuli StimFault) → IsOne (IsReadStimuliAnswer name until read)
 one_read_stimuli one name until (Ok stimuli) = one_stimuli_answer one until stimuli

@@ -1,20 +1,18 @@
--- Each network has one run, and so one answer; and the run of ports is that of their drivers.
+-- Each network has one run, and so one answer; and the run of ports ends.
 use Rattle.std.proofs.Common.{◌≡◌, ℕ, ◌<◌, List, refl, sym, ap, ◌∙◌, arith}
 use Rattle.vital_base.specs.declared.ports.PortBit.{PortBit}
 use Rattle.vital_kernel.specs.Lines.{run_lines}
-use Rattle.vital_kernel.specs.PortRuns.{IsPortRun, port_lines}
-use Rattle.vital_kernel.specs.Runs.{HasOneRun, Run}
+use Rattle.vital_kernel.specs.PortRuns.{IsPortRun}
+use Rattle.vital_kernel.specs.Runs.{Ended, HasOneRun, Run}
 use Rattle.vital_network.specs.Networks.{Network}
 use Rattle.vital_network.specs.PortNetworks.{port_network}
-use Rattle.vital_report.specs.Lines.{Said, end}
 use Rattle.vital_stim.specs.declared.stimuli.StimLine.{StimLine}
 use Rattle.vital_stim.specs.declared.stimuli.Stimuli.{Stimuli}
 use Rattle.vital_tool.specs.Answer.{Answer}
-use Rattle.vital_tool.specs.Runs.{IsRunAnswer, run_answer, run_text}
+use Rattle.vital_tool.specs.Runs.{IsRunAnswer, run_answer}
 use Rattle.vital_tool.specs.Stimuli.{IsStimuliAnswer}
-use Rattle.vital_tool.specs.declared.status.Status.TheVariants.{Done}
 
--- each network has one run, and that of ports is that of their drivers
+-- each network has one run, and that of ports ends
 pub record OneRun : Type 0 where
   pub one : (n : Network) (lines : List StimLine) (until limit : ℕ) → HasOneRun n lines until limit
   pub ports : (ports : List PortBit) (lines : List StimLine) (until limit : ℕ) → 1 < limit → (r : Run) × IsPortRun ports lines until limit r
@@ -32,23 +30,16 @@ only_told n lines until limit one answer (r, is, e) = e ∙ ap (told_of n until 
 
 -- ---- ports
 
--- the answer that tells these lines of a run that ends
-abbrev telling : ℕ → List Said → Answer
-telling until lines = record { bytes = run_text lines (end until); status = Done }
+-- what is answered to stimuli is told of the run of the network of their ports
+pub told_of_stimuli : (until : ℕ) (stimuli : Stimuli) (answer : Answer) → IsStimuliAnswer until stimuli answer → IsRunAnswer (port_network stimuli.ports) stimuli.lines until 1_000 answer
+told_of_stimuli until stimuli answer (r, is, ends, e) = (r, is, e ∙ ap (run_answer until 1_000 (run_lines (port_network stimuli.ports) r.happened)) (sym ends))
 
--- what is answered to stimuli
-abbrev pub said_of : ℕ → Stimuli → Answer
-said_of until stimuli = telling until (port_lines stimuli.ports stimuli.lines until)
-
-pub stimuli_said : OneRun → (until : ℕ) (stimuli : Stimuli) → IsStimuliAnswer until stimuli (said_of until stimuli)
-stimuli_said laws until stimuli =
-    let p = laws.ports stimuli.ports stimuli.lines until 1_000 (omega arith) in
-    (p.0, p.1.is, p.1.ends, ap (telling until) (sym p.1.told))
-
-pub stimuli_answer : OneRun → (until : ℕ) (stimuli : Stimuli) (answer : Answer) → IsStimuliAnswer until stimuli answer → answer ≡ said_of until stimuli
-stimuli_answer laws until stimuli answer (r, is, ends, e) =
+-- what is told of that run is answered to them, since it ends
+pub stimuli_told : (laws : OneRun) (until : ℕ) (stimuli : Stimuli)
+    → IsStimuliAnswer until stimuli (told_of (port_network stimuli.ports) until 1_000 (laws.one (port_network stimuli.ports) stimuli.lines until 1_000).run)
+stimuli_told laws until stimuli =
     let n = port_network stimuli.ports in
-    let p = laws.ports stimuli.ports stimuli.lines until 1_000 (omega arith) in
     let one = laws.one n stimuli.lines until 1_000 in
-    let same : r ≡ p.0 = one.only r is ∙ sym (one.only p.0 p.1.is) in
-    e ∙ ap (λ (q : Run). telling until (run_lines n q.happened)) same ∙ ap (telling until) p.1.told
+    let p = laws.ports stimuli.ports stimuli.lines until 1_000 (omega arith) in
+    let ends : one.run.end ≡ Ended = ap (λ (r : Run). r.end) (sym (one.only p.0 p.1.is)) ∙ p.1.ends in
+    (one.run, one.is, ends, ap (run_answer until 1_000 (run_lines n one.run.happened)) ends)

@@ -14,7 +14,6 @@ use Rattle.vital_report.specs.Lines.{event, init, line_of, text_of}
 use Rattle.vital_network.specs.PortNetworks.{port_network}
 use Rattle.vital_kernel.specs.Runs.{whole_run}
 use Rattle.vital_tool.specs.Answer.{Answer}
-use Rattle.vital_tool.specs.Ports.{due_lines, later_lines}
 use Rattle.vital_tool.specs.Runs.{run_answer}
 use Rattle.vital_tool.specs.declared.status.Status.TheVariants.{DeltaLimit, Done}
 
@@ -57,24 +56,10 @@ earlier_ones_stay = refl
 the_time_less_the_delay_is_not_before : pending_after Inertial 10 One 3 (at 10 Zero ∷ []) ≡ at 13 One ∷ []
 the_time_less_the_delay_is_not_before = refl
 
--- ---- lines that are due
+-- ---- the answer to a run
 
 abbrev line : ℕ → ℕ → Level → StimLine
 line time port value = record { time = time; port = port; value = value }
-
-the_first_lines_at_a_time_are_due : due_lines 5 (line 5 0 One ∷ line 5 1 X ∷ line 7 0 Zero ∷ []) ≡ line 5 0 One ∷ line 5 1 X ∷ []
-the_first_lines_at_a_time_are_due = refl
-
-the_others_come_later : later_lines 5 (line 5 0 One ∷ line 5 1 X ∷ line 7 0 Zero ∷ []) ≡ line 7 0 Zero ∷ []
-the_others_come_later = refl
-
-no_line_is_due_at_another_time : due_lines 6 (line 5 0 One ∷ line 6 0 X ∷ []) ≡ []
-no_line_is_due_at_another_time = refl
-
-then_all_come_later : later_lines 6 (line 5 0 One ∷ line 6 0 X ∷ []) ≡ line 5 0 One ∷ line 6 0 X ∷ []
-then_all_come_later = refl
-
--- ---- the answer to a run
 
 abbrev input : List ℕ → PortBit
 input name = record { name = name; input = true; initial = 85 }

@@ -13,4 +13,3 @@ pub mod Kept
 pub mod Stages
 pub mod Given
 pub mod Outcome
-pub mod Ports

@@ -1,5 +1,5 @@
 -- What a run did, beside what the definition answers.
-use Rattle.std.specs.Prelude.{ℕ, ◌≡◌, ◌≢◌, ◌≤◌, Bool, true, false, List, [], take, Option, Result, Ok, Err, IfSome}
+use Rattle.std.specs.Prelude.{ℕ, ◌≡◌, ◌≢◌, ◌≤◌, Bool, true, false, [], take, Option, IfSome}
 use Rattle.vital_base.specs.Faults.{Rose}
 use Rattle.vital_base.specs.Shelves.{Files}
 use Rattle.vital_base.specs.Sinks.{Told, appended, AppendsPrefix}

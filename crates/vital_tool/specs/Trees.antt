@@ -1,5 +1,5 @@
 -- The answer of `tree`: the design under a top.
-use Rattle.std.specs.Prelude.{◌≡◌, ℕ, List, [], ◌∷◌, ◌++◌, map}
+use Rattle.std.specs.Prelude.{◌≡◌, List, [], ◌∷◌, ◌++◌, map}
 use Rattle.vital_netlist.specs.Designs.{Design}
 use Rattle.vital_netlist.specs.Trees.{TreeInstance, TreeSignal, tree_instances, tree_signals}
 use Rattle.vital_report.specs.Lines.{Said, end_of_design, instance, signal, text_of}

@@ -2,16 +2,15 @@
 #![tactic(auto)]
 
 mod cells;
-mod cycles;
 mod elaborating;
 mod judging;
 mod lines;
 mod loading;
 mod netlist_refusal;
+mod network_run;
 mod reading;
 mod refusal;
 mod run;
-mod signals;
 mod simulating;
 mod stages;
 mod status;

@@ -1,81 +1,27 @@
-//! Running a network with stimuli.
+//! Running a design with stimuli.
 
-ghost use Rattle.std.specs.Prelude.{◌≡◌, ◌^◌, ◌<◌, ◌≤◌, All, IfOk, false, length, map, slice_get};
+ghost use Rattle.std.specs.Prelude.{◌≡◌, ◌^◌, ◌≤◌, All, IfOk, false, length, map, slice_get};
 ghost use Rattle.std.specs.List.{filter_map};
+ghost use Rattle.std.specs.List.Sorted.{IsNonDecreasing};
 ghost use Rattle.std.specs.Option.{option_and_then, option_copied};
 ghost use Rattle.vital_checked.specs.Answers.{default_values};
 ghost use Rattle.vital_checked.specs.Fits.{FitsCell};
-ghost use Rattle.vital_kernel.specs.Kernels.{IsDriven};
 ghost use Rattle.vital_stim.specs.Stimuli.{Fits};
 ghost use Rattle.vital_tool.specs.Outcome.{Stage};
 ghost use Rattle.vital_tool.specs.Runs.{IsRunAnswer};
 ghost use Rattle.vital_tool.specs.Simulations.{IsSimAnswer, simulated};
 
-use crate::lines::end_with;
+use crate::network_run::run_network;
 use crate::status::Status;
 use crate::stimuli::refuse_stimuli;
 use std::alloc::{AllocError, Global};
-use vital_agenda::QueueAgenda;
-use vital_base::{Name, Ports, Sink, Time, WriteFault};
+use vital_base::{Name, Sink};
 use vital_checked::{Checked, Values, default_values};
-use vital_kernel::{Kernel, RunError, one_run};
 use vital_netlist::{Design, DesignInstance};
 use vital_network::Network;
-use vital_report::{Line, Printer};
-use vital_stim::{StimError, StimLine, Stimuli, read_stim};
+use vital_report::Printer;
+use vital_stim::{StimError, Stimuli, read_stim};
 use vital_words::Sim;
-
-/// Runs a network with stimuli up to an end time, where no cycle has a delta number as large as the limit, and prints what is told of the run.
-fn run_network<K: Sink>(
-    alloc: Global,
-    network: &Network<'_>,
-    lines: &[StimLine],
-    until: Time,
-    limit: u32,
-    printer: &mut Printer<'_, K>,
-) -> Status
-    requires driven { All (IsDriven network.now) lines.now }
-    requires until { until ≤ 2 ^ 60 }
-    requires limit { 1 ≤ limit }
-    requires goes_on { printer.old.stopped ≡ false }
-    ensures { Stage (IsRunAnswer network.now lines.now until limit) result printer.old printer.new }
-{
-    match Kernel::<QueueAgenda>::start(alloc, network, lines) {
-        Ok(mut kernel) => run_kernel(&mut kernel, until, u64::from(limit), printer),
-        Err(AllocError) => Status::NoMemory,
-    }
-}
-
-/// The same with its simulation, which has not begun.
-fn run_kernel<K: Sink>(
-    kernel: &mut Kernel<'_, QueueAgenda>,
-    until: Time,
-    limit: u64,
-    printer: &mut Printer<'_, K>,
-) -> Status
-    requires unbegun { kernel.old.is_begun ≡ false }
-    requires until { until ≤ 2 ^ 60 }
-    requires limit { 1 ≤ limit }
-    requires goes_on { printer.old.stopped ≡ false }
-    ensures { Stage (IsRunAnswer kernel.old.network kernel.old.lines until limit) result printer.old printer.new }
-{
-    one_run();
-    match printer.print(&Line::Version) {
-        Ok(()) => match kernel.run_until(until, limit, printer) {
-            Ok(()) => end_with(&Line::End { time: until }, Status::Done, printer),
-            Err(RunError::DeltaLimit { time }) => {
-                end_with(
-                    &Line::RefusedDelta { time, limit },
-                    Status::DeltaLimit,
-                    printer,
-                )
-            }
-            Err(RunError::WriteFault) => Status::WriteFault,
-            Err(RunError::NoMemory) => Status::NoMemory,
-        },
-        Err(WriteFault) => Status::WriteFault,
-    }
-}
 
 /// What `sim` is asked for: its job, with the name and the text of the stimulus file.
 #[derive(Clone, Copy)]
@@ -83,16 +29,6 @@ pub struct Simulated<'a> {
     pub sim: &'a Sim,
     pub name: &'a Name,
     pub text: &'a [u8],
-}
-
-/// The bits of the ports of a design, of which there are fewer than 2^32.
-#[tactic(auto, using(crate::proofs::Driven::few_ports))]
-fn ports_of<'a>(design: &'a Design<'_>) -> &'a Ports
-    ensures ports { result.now ≡ design.now.ports }
-    ensures few { length result.now < 2 ^ 32 }
-{
-    let _ = design.wiring();
-    design.ports()
 }
 
 /// Runs a design with the stimuli of a text.
@@ -108,7 +44,7 @@ pub fn simulate<K: Sink>(
     requires goes_on { printer.old.stopped ≡ false }
     ensures { Stage (IsSimAnswer asked.entry.sim.now asked.entry.name.now asked.entry.text.now design.now) result printer.old printer.new }
 {
-    match read_stim(alloc, asked.text, Some(ports_of(design))) {
+    match read_stim(alloc, asked.text, Some(design.ports())) {
         Ok(stimuli) => simulate_stimuli(alloc, asked.sim, design, &stimuli, printer),
         Err(StimError::Fault(fault)) => refuse_stimuli(asked.name, fault, printer),
         Err(StimError::NoMemory) => Status::NoMemory,
@@ -162,6 +98,7 @@ fn simulate_stimuli<K: Sink>(
 ) -> Status
     requires ports { stimuli.now.ports ≡ design.now.ports }
     requires fit { All (Fits stimuli.now) stimuli.now.lines }
+    requires in_order { IsNonDecreasing (map (λ line. line.time) stimuli.now.lines) }
     requires until { sim.now.until ≤ 2 ^ 60 }
     requires limit { 1 ≤ sim.now.limit }
     requires goes_on { printer.old.stopped ≡ false }
@@ -186,6 +123,7 @@ fn simulate_with<'a, K: Sink>(
     requires defaults { All (λ cell. FitsCell cell (default_values cell)) design.now.cells }
     requires ports { stimuli.now.ports ≡ design.now.ports }
     requires fit { All (Fits stimuli.now) stimuli.now.lines }
+    requires in_order { IsNonDecreasing (map (λ line. line.time) stimuli.now.lines) }
     requires until { sim.now.until ≤ 2 ^ 60 }
     requires limit { 1 ≤ sim.now.limit }
     requires goes_on { printer.old.stopped ≡ false }

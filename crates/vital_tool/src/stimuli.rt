@@ -1,20 +1,22 @@
 //! Playing the stimuli of a file.
 
-ghost use Rattle.std.specs.Prelude.{◌≡◌, ◌^◌, ◌<◌, ◌≤◌, false, length, map, All};
+ghost use Rattle.std.specs.Prelude.{◌≡◌, ◌^◌, ◌≤◌, false, length, map, All};
 ghost use Rattle.std.specs.List.Sorted.{IsNonDecreasing};
 ghost use Rattle.vital_stim.specs.Stimuli.{Fits};
 ghost use Rattle.vital_tool.specs.Outcome.{Stage};
 ghost use Rattle.vital_tool.specs.Stimuli.{IsStimuliAnswer, IsTextAnswer, printed_why, refused_stimuli};
 
-use crate::cycles::play;
 use crate::lines::end_with;
-use crate::signals::Signals;
+use crate::network_run::run_network;
 use crate::status::Status;
 use std::alloc::Global;
 use vital_base::{Name, Sink, Time};
-use vital_kernel::{one_run, port_run};
-use vital_report::{Line, PrintError, Printer, StimulusWhy};
+use vital_network::Network;
+use vital_report::{Line, Printer, StimulusWhy};
 use vital_stim::{StimError, StimFault, StimWhy, Stimuli, read_stim};
+
+/// No cycle of `play` has a delta number as large as that.
+const DELTA_LIMIT: u32 = 1_000;
 
 /// Plays the text of a stimulus file of this name.
 pub fn play_text<K: Sink>(
@@ -25,6 +27,7 @@ pub fn play_text<K: Sink>(
     printer: &mut Printer<'_, K>,
 ) -> Status
     requires short { length text.now ≤ 16_777_216 }
+    requires until { until ≤ 2 ^ 60 }
     requires goes_on { printer.old.stopped ≡ false }
     ensures { Stage (IsTextAnswer name.now until text.now) result printer.old printer.new }
 {
@@ -44,27 +47,15 @@ fn play_stimuli<K: Sink>(
 ) -> Status
     requires fit { All (Fits stimuli.now) stimuli.now.lines }
     requires in_order { IsNonDecreasing (map (λ line. line.time) stimuli.now.lines) }
-    requires few { length stimuli.now.ports < 2 ^ 32 }
+    requires until { until ≤ 2 ^ 60 }
     requires goes_on { printer.old.stopped ≡ false }
     ensures { Stage (IsStimuliAnswer until stimuli.now) result printer.old printer.new }
 {
-    one_run();
-    port_run();
-    let ports = stimuli.ports.as_slice();
-    let Ok(mut signals) = Signals::new(alloc, ports) else {
+    let Ok(network) = Network::of_ports(alloc, stimuli.ports.as_slice()) else {
         return Status::NoMemory;
     };
-    match play(
-        ports,
-        stimuli.lines.as_slice(),
-        &mut signals,
-        until,
-        printer,
-    ) {
-        Ok(()) => Status::Done,
-        Err(PrintError::WriteFault) => Status::WriteFault,
-        Err(PrintError::NoMemory) => Status::NoMemory,
-    }
+    let lines = stimuli.lines.as_slice();
+    run_network(alloc, &network, lines, until, DELTA_LIMIT, printer)
 }
 
 /// Refuses a stimulus file of this name with a fault.

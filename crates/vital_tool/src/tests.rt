@@ -2,17 +2,29 @@
 
 mod check_rows;
 mod play_rows;
+mod sim_files;
+mod sim_rows;
 mod tree_rows;
 
 use crate::run::run;
 use crate::status::Status;
 use std::alloc::{AllocError, Global};
+use std::process::Abort;
 use std::test::Fail;
 use vital_base::{Bytes, List, MemFile, MemShelf, MemSink, Name, Word};
 
 /// Words, the files with their texts, what is written, and the status.
 type Row = (
     &'static [&'static str],
+    &'static [(&'static str, &'static str)],
+    &'static str,
+    u8,
+);
+
+/// The same with edits: in place of the first text of each stands the second, wherever that was in a file.
+type SimRow = (
+    &'static [&'static str],
+    &'static [(&'static str, &'static str)],
     &'static [(&'static str, &'static str)],
     &'static str,
     u8,
@@ -27,33 +39,62 @@ fn words_of(alloc: Global, words: &[&str]) -> Result<Vec<Word>, AllocError> {
 }
 
 fn files_of(alloc: Global, texts: &[(&str, &str)]) -> Result<List<MemFile>, AllocError> {
+    edited_files(alloc, texts, &[])
+}
+
+/// Files with these texts after these edits.
+fn edited_files(
+    alloc: Global,
+    texts: &[(&str, &str)],
+    edits: &[(&str, &str)],
+) -> Result<List<MemFile>, AllocError> {
     let mut files = Vec::new(alloc);
     for (name, text) in texts {
         let name = Name::new(Vec::from_slice(alloc, name.as_bytes())?);
+        let text = edited(alloc, text, edits)?;
         let bytes = Bytes::new(Vec::from_slice(alloc, text.as_bytes())?);
         files.push(MemFile { name, bytes })?;
     }
     Ok(List::new(files))
 }
 
-/// What is written, and the status, where these are the words and the files with their texts.
+fn edited(alloc: Global, text: &str, edits: &[(&str, &str)]) -> Result<String, AllocError> {
+    let mut text = String::from_str(alloc, text)?;
+    for (old, new) in edits {
+        text = text.replace(alloc, *old, new)?;
+    }
+    Ok(text)
+}
+
+/// What is written, and the status, where these are the words and the files.
 fn answered(
     alloc: Global,
     words: &[&str],
-    texts: &[(&str, &str)],
+    files: List<MemFile>,
 ) -> Result<(MemSink, Status), AllocError> {
     let words = words_of(alloc, words)?;
-    let mut shelf = MemShelf::new(files_of(alloc, texts)?, 7, List::new(Vec::new(alloc)));
+    let mut shelf = MemShelf::new(files, 7, List::new(Vec::new(alloc)));
     let mut sink = MemSink::new(alloc, 1_000, List::new(Vec::new(alloc)));
     let status = run(alloc, &words, &mut shelf, &mut sink);
     Ok((sink, status))
+}
+
+/// Each of these rows of `sim` is answered so.
+fn are_answered(rt: &impl Abort, alloc: Global, rows: &[SimRow]) -> Result<(), Fail> {
+    for (words, texts, edits, written, status) in rows {
+        let files = edited_files(alloc, texts, edits)?;
+        let (sink, ended) = answered(alloc, words, files)?;
+        assert_eq!(rt; ended.number(), *status, "at {written:?}");
+        assert_eq!(rt; sink.bytes(), written.as_bytes(), "at {written:?}");
+    }
+    Ok(())
 }
 
 #[test]
 fn rows_are_answered(rt: HostRuntime) -> Result<(), Fail> {
     let alloc = rt.alloc();
     for (words, texts, written, status) in play_rows::ROWS.iter().chain(check_rows::ROWS.iter()) {
-        let (sink, ended) = answered(alloc, words, texts)?;
+        let (sink, ended) = answered(alloc, words, files_of(alloc, texts)?)?;
         assert_eq!(rt; ended.number(), *status, "at {written:?}");
         assert_eq!(rt; sink.bytes(), written.as_bytes(), "at {written:?}");
     }
@@ -64,11 +105,31 @@ fn rows_are_answered(rt: HostRuntime) -> Result<(), Fail> {
 fn tree_rows_are_answered(rt: HostRuntime) -> Result<(), Fail> {
     let alloc = rt.alloc();
     for (words, texts, written, status) in tree_rows::ROWS.iter() {
-        let (sink, ended) = answered(alloc, words, texts)?;
+        let (sink, ended) = answered(alloc, words, files_of(alloc, texts)?)?;
         assert_eq!(rt; ended.number(), *status, "at {written:?}");
         assert_eq!(rt; sink.bytes(), written.as_bytes(), "at {written:?}");
     }
     Ok(())
+}
+
+#[test]
+fn runs_of_designs_are_told(rt: HostRuntime) -> Result<(), Fail> {
+    are_answered(&rt, rt.alloc(), sim_rows::RUNS)
+}
+
+#[test]
+fn glitches_are_told_in_each_mode(rt: HostRuntime) -> Result<(), Fail> {
+    are_answered(&rt, rt.alloc(), sim_rows::GLITCHES)
+}
+
+#[test]
+fn checks_and_state_tables_are_done(rt: HostRuntime) -> Result<(), Fail> {
+    are_answered(&rt, rt.alloc(), sim_rows::CHECKS)
+}
+
+#[test]
+fn what_cannot_be_simulated_is_refused(rt: HostRuntime) -> Result<(), Fail> {
+    are_answered(&rt, rt.alloc(), sim_rows::REFUSALS)
 }
 
 /// How rows end where a read or a write of the devices fails: the words and the file, pieces and failing calls of the shelf and
@@ -146,40 +207,53 @@ fn checked(alloc: Global, texts: [&str; 3]) -> Result<(MemSink, Status), AllocEr
     Ok((sink, status))
 }
 
-/// Each limit at its value, and one past it. The room of tokens is shared by the files: a library clause of one name is
-/// three of them, and each further name two more.
+/// These three files are answered so.
+fn are_checked(
+    rt: &impl Abort,
+    alloc: Global,
+    texts: [&str; 3],
+    written: &str,
+    status: u8,
+) -> Result<(), Fail> {
+    let (sink, ended) = checked(alloc, texts)?;
+    assert_eq!(rt; ended.number(), status, "at {written:?}");
+    assert_eq!(rt; sink.bytes(), written.as_bytes(), "at {written:?}");
+    Ok(())
+}
+
+/// The room of tokens is shared by the files: a library clause of one name is three of them, and each further name two more.
 #[test]
-fn limits_are_kept(rt: HostRuntime) -> Result<(), Fail> {
+fn files_may_have_4_194_304_tokens(rt: HostRuntime) -> Result<(), Fail> {
     let alloc = rt.alloc();
     let names = repeated(alloc, "library a", ",a", (4_194_304 - 6) / 2, ";")?;
-    let most_units = packages(alloc, 4_096)?;
+    are_checked(&rt, alloc, ["library a;", names.as_str(), ""], "", 0)
+}
+
+#[test]
+fn one_token_more_is_refused(rt: HostRuntime) -> Result<(), Fail> {
+    let alloc = rt.alloc();
+    let names = repeated(alloc, "library a", ",a", (4_194_304 - 6) / 2, ";;")?;
+    let written = "refused limit tokens b 1 4194309\n";
+    are_checked(&rt, alloc, ["library a;", names.as_str(), ""], written, 4)
+}
+
+#[test]
+fn files_may_have_4_096_units(rt: HostRuntime) -> Result<(), Fail> {
+    let alloc = rt.alloc();
     let units = packages(alloc, 4_095)?;
+    let texts = [units.as_str(), "package A is end;", ""];
+    are_checked(&rt, alloc, texts, "", 0)?;
+    let texts = [units.as_str(), "package A is end;", " package B is end;"];
+    are_checked(&rt, alloc, texts, "refused limit units c 1 2\n", 4)
+}
+
+#[test]
+fn parentheses_may_stand_64_deep(rt: HostRuntime) -> Result<(), Fail> {
+    let alloc = rt.alloc();
     let deepest = repeated(alloc, "package P is constant C : T := ", "(", 64, ")")?;
+    let texts = [deepest.as_str(), "", ""];
+    are_checked(&rt, alloc, texts, "refused syntax a 1 96\n", 3)?;
     let too_deep = repeated(alloc, "package P is constant C : T := ", "(", 65, ")")?;
-    let rows = [
-        (["library a;", names.as_str(), ""], "", 0),
-        (
-            ["library a;", names.as_str(), ";"],
-            "refused limit tokens c 1 1\n",
-            4,
-        ),
-        ([most_units.as_str(), "", ""], "", 0),
-        (
-            [units.as_str(), "package A is end;", " package B is end;"],
-            "refused limit units c 1 2\n",
-            4,
-        ),
-        ([deepest.as_str(), "", ""], "refused syntax a 1 96\n", 3),
-        (
-            [too_deep.as_str(), "", ""],
-            "refused limit nesting a 1 96\n",
-            4,
-        ),
-    ];
-    for (texts, written, status) in rows {
-        let (sink, ended) = checked(alloc, texts)?;
-        assert_eq!(rt; ended.number(), status, "at {written:?}");
-        assert_eq!(rt; sink.bytes(), written.as_bytes(), "at {written:?}");
-    }
-    Ok(())
+    let texts = [too_deep.as_str(), "", ""];
+    are_checked(&rt, alloc, texts, "refused limit nesting a 1 96\n", 4)
 }

@@ -21,7 +21,7 @@ const VECTORS_LINES: &str =
     "instance - v net\ninstance u1 and2 cell\ninstance u2 and2 cell\nsignal p(1) std_logic 0\nsignal p(0) std_logic 0\nsignal w std_logic 1\nsignal t(0) std_logic 1\nsignal t(1) std_logic 0\nsignal u1.a_ipd std_ulogic 1\nsignal u1.b_ipd std_ulogic 1\nsignal u2.b std_ulogic 0\nsignal u2.a_ipd std_ulogic 1\nsignal u2.b_ipd std_ulogic 1\nend\n";
 
 /// A three-state buffer.
-const TB: &str = "entity TB is
+pub const TB: &str = "entity TB is
   generic (tpd_D_Y, tpd_E_Y : VitalDelayType01Z := (others => 1 ns));
   port (D, E : in STD_ULOGIC; Y : out STD_LOGIC);
   attribute VITAL_LEVEL0 of TB : entity is TRUE;

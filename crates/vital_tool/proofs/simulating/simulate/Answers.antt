@@ -8,14 +8,14 @@ use Rattle.vital_tool.proofs.simulating.simulate.Goals as goal
 pub returns-in-Ok : goal.returns-in-Ok
 returns-in-Ok g c =
     let asked = c.args.asked in
-    let told = rw c.ports_of.ensures.ports at c.in-Ok.ensures.answer in
+    let told = rw c.ports.ensures.ports at c.in-Ok.ensures.answer in
     subst (λ (read : Result Stimuli StimFault). Stage (IsStimulatedAnswer asked.sim.now asked.name.now c.args.design.now read) c.simulate_stimuli.result c.args.printer.now c.simulate_stimuli.new.printer) (sym told) c.simulate_stimuli.ensures
 
 pub returns-in-Err-Fault : goal.returns-in-Err-Fault
 returns-in-Err-Fault g c =
     let asked = c.args.asked in
-    let told = rw (c.in-Err-Fault.field-0-is, c.ports_of.ensures.ports) at c.in-Err-Fault.ensures.answer in
+    let told = rw (c.in-Err-Fault.field-0-is, c.ports.ensures.ports) at c.in-Err-Fault.ensures.answer in
     subst (λ (read : Result Stimuli StimFault). Stage (IsStimulatedAnswer asked.sim.now asked.name.now c.args.design.now read) c.refuse_stimuli.result c.args.printer.now c.refuse_stimuli.new.printer) (sym told) (rw c.in-Err-Fault.field-0-is at c.refuse_stimuli.ensures)
 
 pub simulate_stimuli-requires-clause-ports : goal.simulate_stimuli-requires-clause-ports
-simulate_stimuli-requires-clause-ports g c = c.in-Ok.ensures.given ∙ c.ports_of.ensures.ports
+simulate_stimuli-requires-clause-ports g c = c.in-Ok.ensures.given ∙ c.ports.ensures.ports

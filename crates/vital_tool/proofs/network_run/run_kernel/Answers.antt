@@ -1,5 +1,5 @@
 use Rattle.vital_tool.proofs.NetworkRuns.{ended_goes_on, passed_goes_on, run_breaks, run_ends, run_passes, run_stops, version_stops}
-use Rattle.vital_tool.proofs.simulating.run_kernel.Goals as goal
+use Rattle.vital_tool.proofs.network_run.run_kernel.Goals as goal
 
 pub end_with-requires-clause-goes_on : goal.end_with-requires-clause-goes_on
 end_with-requires-clause-goes_on g c =
