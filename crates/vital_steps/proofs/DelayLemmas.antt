@@ -40,7 +40,7 @@ use Rattle.vital_steps.specs.Scopes.{Scope, bit_of, names_at, names_of, names_of
 use Rattle.vital_steps.specs.Sound.{has_bit, statement_tests, tests}
 use Rattle.vital_steps.specs.Steps.{IsDelayStep, IsPathStep, delay_of}
 use Rattle.vital_steps.proofs.ChangeLemmas.{kinds-changed, named-changed, read-there}
-use Rattle.vital_steps.proofs.CheckLemmas.{state-same}
+use Rattle.vital_steps.proofs.CheckPartLemmas.{state-same}
 use Rattle.vital_steps.proofs.FitsLemmas.{fits-kinds, kinds-suit}
 use Rattle.vital_steps.proofs.KindLemmas.{found-variable}
 use Rattle.vital_steps.proofs.NameLemmas.{age-there}

@@ -12,6 +12,7 @@ pub mod ChangeLemmas
 pub mod FitsLemmas
 pub mod PutLemmas
 pub mod FunctionalLemmas
+pub mod CheckPartLemmas
 pub mod CheckLemmas
 pub mod DelayLemmas
 pub mod ProcessLemmas

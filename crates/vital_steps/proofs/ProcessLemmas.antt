@@ -19,7 +19,8 @@ use Rattle.vital_steps.specs.Named.{by_name, named}
 use Rattle.vital_steps.specs.Scopes.{Scope, names_of_variables, present}
 use Rattle.vital_steps.specs.Sound.{has_state_table, statement_tests, tests}
 use Rattle.vital_steps.specs.Steps.{AreSteps}
-use Rattle.vital_steps.proofs.CheckLemmas.{checks-kept, checks-stand, state-same}
+use Rattle.vital_steps.proofs.CheckLemmas.{checks-kept, checks-stand}
+use Rattle.vital_steps.proofs.CheckPartLemmas.{state-same}
 use Rattle.vital_steps.proofs.DelayLemmas.{delays-kept, delays-stand}
 use Rattle.vital_steps.proofs.FitsLemmas.{kinds-suit}
 use Rattle.vital_steps.proofs.FunctionalLemmas.{functionality-kept, functionality-stands}
