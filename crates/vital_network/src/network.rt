@@ -15,7 +15,7 @@ use crate::signals::signals_of;
 use crate::stimulated::stimulus_drivers;
 use std::alloc::{AllocError, Global};
 use std::marker::Model;
-use vital_base::{Name, PortBit, Watch};
+use vital_base::{Name, Ports, Watch};
 use vital_checked::{Checked, Values};
 use vital_logic::Level;
 use vital_netlist::{Design, DesignDriver};
@@ -106,14 +106,16 @@ impl<'a> Network<'a> {
         })
     }
 
-    /// The network of ports alone. It fails as without memory where there are 2^31 or more of them.
-    pub fn of_ports(alloc: Global, ports: &[PortBit]) -> Result<Network<'a>, AllocError>
-        ensures { IfOk result (λ n. n ≡ port_network ports.now) }
+    /// The network of ports alone, whose names it takes. It fails as without memory where there are 2^31 or more of them.
+    pub fn of_ports(alloc: Global, ports: Ports) -> Result<Network<'a>, AllocError>
+        ensures { IfOk result (λ n. n ≡ port_network ports) }
     {
+        let ports = ports.into_vec();
         first_behind(ports.len(), 0)?;
+        let stimulus_drivers = port_drivers(alloc, &ports)?;
         Ok(Network {
             signals: port_signals(alloc, ports)?,
-            stimulus_drivers: port_drivers(alloc, ports)?,
+            stimulus_drivers,
             cell_drivers: &[],
             cells: Vec::new(alloc),
         })

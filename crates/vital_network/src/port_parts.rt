@@ -8,27 +8,28 @@ ghost use Rattle.vital_network.specs.PortNetworks as ports;
 use crate::network::NetSignal;
 use crate::stimulated::{initial_level, stimulus_driver};
 use std::alloc::{AllocError, Global};
-use vital_base::{Name, PortBit};
+use vital_base::PortBit;
 use vital_netlist::DesignDriver;
 
-/// The signal of a port bit.
-fn port_signal(alloc: Global, port: &PortBit) -> Result<NetSignal, AllocError>
-    ensures { IfOk result (λ signal. signal ≡ ports.port_signal port.now) }
+/// The signal of a port bit, whose name it takes.
+fn port_signal(port: PortBit) -> NetSignal
+    ensures { result ≡ ports.port_signal port }
 {
-    Ok(NetSignal {
-        name: Name::new(Vec::from_slice(alloc, port.name.as_slice())?),
+    let initial = initial_level(&port);
+    NetSignal {
+        name: port.name,
         is_watched: true,
-        initial: initial_level(port),
-    })
+        initial,
+    }
 }
 
-/// The signals of port bits.
-pub fn port_signals(alloc: Global, bits: &[PortBit]) -> Result<Vec<NetSignal>, AllocError>
-    ensures { IfOk result (λ signals. signals.items ≡ map ports.port_signal bits.now) }
+/// The signals of port bits, whose names they take.
+pub fn port_signals(alloc: Global, bits: Vec<PortBit>) -> Result<Vec<NetSignal>, AllocError>
+    ensures { IfOk result (λ signals. signals.items ≡ map ports.port_signal bits.items) }
 {
-    let mut signals = Vec::new(alloc);
+    let mut signals = Vec::with_capacity(alloc, bits.len())?;
     for port in bits {
-        signals.push(port_signal(alloc, port)?)?;
+        signals.push(port_signal(port))?;
     }
     Ok(signals)
 }
@@ -37,7 +38,7 @@ pub fn port_signals(alloc: Global, bits: &[PortBit]) -> Result<Vec<NetSignal>, A
 pub fn port_drivers(alloc: Global, bits: &[PortBit]) -> Result<Vec<DesignDriver>, AllocError>
     ensures { IfOk result (λ drivers. drivers.items ≡ map spec.stimulus_driver (enumerate_from 0 bits.now)) }
 {
-    let mut drivers = Vec::new(alloc);
+    let mut drivers = Vec::with_capacity(alloc, bits.len())?;
     for (number, port) in bits.iter().enumerate() {
         drivers.push(stimulus_driver(number, port))?;
     }

@@ -1,29 +1,13 @@
-//! The program: its words, the run that they ask for, and the one call that does it all.
+//! The program: its words, and the run that they ask for.
 #![tactic(auto)]
 
-mod cells;
-mod elaborating;
-mod judging;
-mod lines;
-mod loading;
-mod netlist_refusal;
-mod network_run;
-mod reading;
-mod refusal;
-mod run;
-mod simulating;
-mod stages;
-mod status;
-mod stimuli;
-mod tree;
-
-use crate::run::run;
 use std::alloc::{AllocError, Global};
 use std::env;
 use std::io::ErrorKind;
 use std::process::ExitCode;
 use std::rt::Env;
 use vital_base::{FileShelf, StdSink, Word};
+use vital_run::run;
 
 #[cfg(test)]
 mod tests;

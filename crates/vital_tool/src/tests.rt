@@ -6,12 +6,11 @@ mod sim_files;
 mod sim_rows;
 mod tree_rows;
 
-use crate::run::run;
-use crate::status::Status;
 use std::alloc::{AllocError, Global};
 use std::process::Abort;
 use std::test::Fail;
 use vital_base::{Bytes, List, MemFile, MemShelf, MemSink, Name, Word};
+use vital_run::{Status, run};
 
 /// Words, the files with their texts, what is written, and the status.
 type Row = (

@@ -1,0 +1,63 @@
+-- How what the calls of the stages return is read.
+use Rattle.std.specs.Prelude.{ℕ, ◌≡◌, ◌≤◌, ◌^◌, List, length, Option, Some, None, Result, Ok, Err}
+use Rattle.vital_library.specs.declared.error.LibraryError.{LibraryError}
+use Rattle.vital_library.specs.declared.error.LibraryError.TheVariants as library
+use Rattle.vital_netlist.specs.Refusals.{Refusal as NetRefusal}
+use Rattle.vital_nodes.specs.declared.unit.Units.{Units}
+use Rattle.vital_run.specs.Answer.{Answer}
+use Rattle.vital_run.specs.Loading.{too_long}
+use Rattle.vital_run.specs.Refusals.{IsFileRefusal, IsLibraryRefusal}
+use Rattle.vital_run.specs.Designs.{refused_design}
+use Rattle.vital_run.specs.Simulations.{IsSimAnswer}
+use Rattle.vital_run.specs.Trees.{IsTreeAnswer}
+use Rattle.vital_run.specs.declared.elaborating.Aim.{Aim}
+use Rattle.vital_run.specs.declared.elaborating.Aim.TheVariants as aim
+use Rattle.vital_netlist.specs.Designs.{Design}
+use Rattle.vital_run.specs.declared.loading.NotLoaded.{NotLoaded}
+use Rattle.vital_run.specs.declared.loading.NotLoaded.TheVariants as loading
+use Rattle.vital_run.specs.declared.loading.Source.{Source}
+use Rattle.vital_run.specs.declared.reading.Unread.{Unread}
+use Rattle.vital_run.specs.declared.reading.Unread.TheVariants as reading
+use Rattle.vital_run.specs.declared.refusal.Refusal.{Refusal}
+use Rattle.vital_vhdl.specs.declared.read.UnitError.{UnitError}
+use Rattle.vital_words.specs.declared.job.NamedFile.{NamedFile}
+
+-- Files were loaded as defined, unless the shelf failed or memory ran out.
+abbrev pub GivesSources : Result (List Source) NotLoaded → Result (List Source) Answer → Type 0
+GivesSources (Ok sources) outcome = outcome ≡ Ok sources
+GivesSources (Err (loading.TooLong name)) outcome = outcome ≡ Err (too_long name.now)
+GivesSources (Err loading.ReadFault) outcome = Unit {0}
+GivesSources (Err loading.NoMemory) outcome = Unit {0}
+
+-- What came of reading the first of some files is this, unless memory ran out.
+abbrev pub GivesFirst : ℕ → List ℕ → Result Units Unread → Result Units UnitError → Type 0
+GivesFirst number text (Ok units) first = first ≡ Ok units
+GivesFirst number text (Err (reading.Refused refusal)) first =
+    (error : UnitError) × (first ≡ Err error) × IsFileRefusal number text error refusal
+GivesFirst number text (Err reading.NoMemory) first = Unit {0}
+
+-- What came of reading files is this, unless memory ran out.
+abbrev pub GivesUnits : Result (List Units) Unread → Result (List Units) Refusal → Type 0
+GivesUnits (Ok units) outcome = outcome ≡ Ok units
+GivesUnits (Err (reading.Refused refusal)) outcome = outcome ≡ Err refusal
+GivesUnits (Err reading.NoMemory) outcome = Unit {0}
+
+-- What a library that is refused is refused with, unless memory ran out.
+abbrev pub GivesRefusal : LibraryError → Option Refusal → Type 0
+GivesRefusal error (Some refusal) = IsLibraryRefusal error refusal
+GivesRefusal error None = error ≡ library.NoMemory
+
+-- What a top is answered that is refused so, unless memory ran out.
+abbrev pub GivesDesignRefusal : List NamedFile → List ℕ → Option NetRefusal → Answer → Type 0
+GivesDesignRefusal files top (Some refusal) answer = answer ≡ refused_design files top refusal
+GivesDesignRefusal files top None answer = Unit {0}
+
+-- What is done with a design: it is printed, or simulated.
+abbrev pub IsAimAnswer : Aim → Design → Answer → Type 0
+IsAimAnswer aim.Tree d answer = IsTreeAnswer d answer
+IsAimAnswer (aim.Sim s) d answer = IsSimAnswer s.sim.now s.name.now s.text.now d answer
+
+-- Its file is no longer than files are, and its end time and limit are in bounds.
+abbrev pub CanAnswer : Aim → Type 0
+CanAnswer aim.Tree = Unit {0}
+CanAnswer (aim.Sim s) = (length s.text.now ≤ 16_777_216) × (s.sim.now.until ≤ 2 ^ 60) × (1 ≤ s.sim.now.limit)
