@@ -78,57 +78,63 @@ fn answered(
     Ok((sink, status))
 }
 
-/// Each of these rows of `sim` is answered so.
-fn are_answered(rt: &impl Abort, alloc: Global, rows: &[SimRow]) -> Result<(), Fail> {
+/// A run wrote these bytes and ended with this status.
+fn ended_so(rt: &impl Abort, sink: &MemSink, ended: Status, written: &str, status: u8) {
+    assert_eq!(rt; ended.number(), status, "at {written:?}");
+    assert_eq!(rt; sink.bytes(), written.as_bytes(), "at {written:?}");
+}
+
+/// Each of these rows is answered so.
+fn are_answered(rt: &impl Abort, alloc: Global, rows: &[Row]) -> Result<(), Fail> {
+    for (words, texts, written, status) in rows {
+        let (sink, ended) = answered(alloc, words, files_of(alloc, texts)?)?;
+        ended_so(rt, &sink, ended, written, *status);
+    }
+    Ok(())
+}
+
+/// Each of these rows with edits is answered so.
+fn are_answered_edited(rt: &impl Abort, alloc: Global, rows: &[SimRow]) -> Result<(), Fail> {
     for (words, texts, edits, written, status) in rows {
-        let files = edited_files(alloc, texts, edits)?;
-        let (sink, ended) = answered(alloc, words, files)?;
-        assert_eq!(rt; ended.number(), *status, "at {written:?}");
-        assert_eq!(rt; sink.bytes(), written.as_bytes(), "at {written:?}");
+        let (sink, ended) = answered(alloc, words, edited_files(alloc, texts, edits)?)?;
+        ended_so(rt, &sink, ended, written, *status);
     }
     Ok(())
 }
 
 #[test]
-fn rows_are_answered(rt: HostRuntime) -> Result<(), Fail> {
-    let alloc = rt.alloc();
-    for (words, texts, written, status) in play_rows::ROWS.iter().chain(check_rows::ROWS.iter()) {
-        let (sink, ended) = answered(alloc, words, files_of(alloc, texts)?)?;
-        assert_eq!(rt; ended.number(), *status, "at {written:?}");
-        assert_eq!(rt; sink.bytes(), written.as_bytes(), "at {written:?}");
-    }
-    Ok(())
+fn rows_of_play_are_answered(rt: HostRuntime) -> Result<(), Fail> {
+    are_answered(&rt, rt.alloc(), play_rows::ROWS)
 }
 
 #[test]
-fn tree_rows_are_answered(rt: HostRuntime) -> Result<(), Fail> {
-    let alloc = rt.alloc();
-    for (words, texts, written, status) in tree_rows::ROWS.iter() {
-        let (sink, ended) = answered(alloc, words, files_of(alloc, texts)?)?;
-        assert_eq!(rt; ended.number(), *status, "at {written:?}");
-        assert_eq!(rt; sink.bytes(), written.as_bytes(), "at {written:?}");
-    }
-    Ok(())
+fn rows_of_check_are_answered(rt: HostRuntime) -> Result<(), Fail> {
+    are_answered(&rt, rt.alloc(), check_rows::ROWS)
+}
+
+#[test]
+fn rows_of_tree_are_answered(rt: HostRuntime) -> Result<(), Fail> {
+    are_answered(&rt, rt.alloc(), tree_rows::ROWS)
 }
 
 #[test]
 fn runs_of_designs_are_told(rt: HostRuntime) -> Result<(), Fail> {
-    are_answered(&rt, rt.alloc(), sim_rows::RUNS)
+    are_answered_edited(&rt, rt.alloc(), sim_rows::RUNS)
 }
 
 #[test]
 fn glitches_are_told_in_each_mode(rt: HostRuntime) -> Result<(), Fail> {
-    are_answered(&rt, rt.alloc(), sim_rows::GLITCHES)
+    are_answered_edited(&rt, rt.alloc(), sim_rows::GLITCHES)
 }
 
 #[test]
 fn checks_and_state_tables_are_done(rt: HostRuntime) -> Result<(), Fail> {
-    are_answered(&rt, rt.alloc(), sim_rows::CHECKS)
+    are_answered_edited(&rt, rt.alloc(), sim_rows::CHECKS)
 }
 
 #[test]
 fn what_cannot_be_simulated_is_refused(rt: HostRuntime) -> Result<(), Fail> {
-    are_answered(&rt, rt.alloc(), sim_rows::REFUSALS)
+    are_answered_edited(&rt, rt.alloc(), sim_rows::REFUSALS)
 }
 
 /// How rows end where a read or a write of the devices fails: the words and the file, pieces and failing calls of the shelf and
@@ -215,8 +221,7 @@ fn are_checked(
     status: u8,
 ) -> Result<(), Fail> {
     let (sink, ended) = checked(alloc, texts)?;
-    assert_eq!(rt; ended.number(), status, "at {written:?}");
-    assert_eq!(rt; sink.bytes(), written.as_bytes(), "at {written:?}");
+    ended_so(rt, &sink, ended, written, status);
     Ok(())
 }
 

@@ -88,7 +88,7 @@ entity F is end;
 const LIMITED_LINES: &str =
     "cell e v level1\ncell e w level0 L1.1 a 3 14\nrefused limit delay a 4 45\n";
 
-pub const ROWS: [Row; 24] = [
+pub const ROWS: &[Row] = &[
     (&["check"], &[], "refused usage 2 missing\n", 2),
     (&["check", "lib="], &[], "refused usage 2 value\n", 2),
     (

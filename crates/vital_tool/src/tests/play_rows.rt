@@ -7,7 +7,7 @@ pub const TWO_PORTS: &str = "0 ps a 0\n0 ps b 1\n10 ps a 1\n20 ps b 1\n30 ps a Z
 pub const TWO_PORTS_LINES: &str =
     "vital 1\ninit a U\ninit b U\nevent 0 1 a 0\nevent 0 1 b 1\nevent 10000 0 a 1\nend 25000\n";
 
-pub const ROWS: [Row; 24] = [
+pub const ROWS: &[Row] = &[
     (
         &["play", "stim=s", "until=25ps"],
         &[("s", TWO_PORTS)],

@@ -52,7 +52,7 @@ begin
 end S1;
 ";
 
-pub const ROWS: [Row; 5] = [
+pub const ROWS: &[Row] = &[
     (
         &["tree", "lib=and2.vhd", "net=r.vhd", "top=r"],
         &[("and2.vhd", AND2), ("r.vhd", RING)],
