@@ -147,3 +147,9 @@ digits_before (x ∷ xs) d h (suc k) e lt = digits_before xs d (other-digits x (
 
 pub digits_pushed : (ds new : List ℕ) (d : ℕ) → AreDigits ds → d < 10 → new ≡ ds ++ d ∷ [] → AreDigits new
 digits_pushed ds new d h small is = subst AreDigits (sym is) (push-digits ds d h small)
+
+-- digits write at least what those behind some of them do
+pub drop_least : (ds : List ℕ) (p : ℕ) → value (drop p ds) ≤ value ds
+drop_least ds zero = omega arith
+drop_least [] (suc p) = omega arith
+drop_least (d ∷ ds) (suc p) = let rest = drop_least ds p in omega (arith, rest)

@@ -1,13 +1,13 @@
 //! Natural numbers of any size.
 
-ghost use Rattle.std.specs.Prelude.{◌≡◌, ◌+◌, ◌-◌, nat_lt, IfOk, IfSome};
+ghost use Rattle.std.specs.Prelude.{◌≡◌, ◌+◌, ◌-◌, ◌^◌, ◌≤◌, nat_lt, Some, None, if◌then◌else◌, IfOk, IfSome, MatchOption};
 ghost use Rattle.std.specs.Ordering.{nat_cmp};
 ghost use Rattle.vital_naturals.specs.Digits as spec;
 ghost use Rattle.vital_naturals.specs.Forms.{digits_written};
 ghost use Rattle.vital_naturals.specs.Numerals.{number, numeral};
 
 use crate::digits::{compare, difference_of, digits_of_literal, numeral_of, sum_of};
-use crate::word::{digits_of_word, numeral_of_word, word_of_literal};
+use crate::word::{digits_of_word, numeral_of_word, word_of_digits, word_of_literal};
 use std::alloc::{AllocError, Global};
 use std::cmp::Ordering;
 use std::marker::Model;
@@ -119,6 +119,26 @@ impl Natural {
         match &self.form {
             Form::Word(word) => Some(*word),
             Form::Digits(_) => None,
+        }
+    }
+
+    /// It, if it fits a word, however it is kept.
+    fn fitting(&self) -> Option<u64>
+        ensures { MatchOption result (2 ^ 64 ≤ self.now) (λ word. word ≡ self.now) }
+    {
+        match &self.form {
+            Form::Word(word) => Some(*word),
+            Form::Digits(digits) => word_of_digits(digits.as_slice()),
+        }
+    }
+
+    /// It, if it is less than a count. It takes time in proportion to its digits.
+    pub fn below(&self, count: usize) -> Option<usize>
+        ensures { result ≡ if nat_lt self.now count then Some self.now else None }
+    {
+        match self.fitting() {
+            Some(word) if word < count as u64 => Some(word as usize),
+            _ => None,
         }
     }
 

@@ -41,6 +41,20 @@ pub fn word_of_literal(literal: &[u8]) -> Option<u64>
     Some(word)
 }
 
+/// The number that digits write, that of the ones first, if it fits a word.
+#[tactic(auto, using(crate::proofs::DigitLemmas::drop_least))]
+pub fn word_of_digits(digits: &[u8]) -> Option<u64>
+    ensures { MatchOption result (2 ^ 64 ≤ spec.value digits.now) (λ word. word ≡ spec.value digits.now) }
+{
+    let mut word = 0;
+    let mut place = digits.len();
+    while place > 0 {
+        place -= 1;
+        word = with_digit(word, digits[place])?;
+    }
+    Some(word)
+}
+
 /// The numeral of a word, as bytes of ASCII, without zeros before it.
 pub fn numeral_of_word(alloc: Global, word: u64) -> Result<Vec<u8>, AllocError>
     ensures { IfOk result (λ bytes. bytes.items ≡ numeral word) }

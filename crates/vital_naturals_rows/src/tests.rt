@@ -206,3 +206,27 @@ fn a_number_has_one_behind_it(rt: HostRuntime) -> Result<(), Fail> {
     }
     Ok(())
 }
+
+/// Two literals, a count, and how much greater the first one is than the second if that is less than the count.
+static COUNTED: [(&str, &str, usize, Option<usize>); 8] = [
+    ("0", "0", 0, None),
+    ("0", "0", 1, Some(0)),
+    ("007", "0", 8, Some(7)),
+    ("1_008", "1000", 8, None),
+    ("18446744073709551615", "0", 65_536, None),
+    ("18446744073709551616", "0", 3, None),
+    ("18446744073709551621", "18446744073709551616", 6, Some(5)),
+    ("18446744073709551621", "18446744073709551616", 5, None),
+];
+
+#[test]
+fn numbers_below_a_count_are_told(rt: HostRuntime) -> Result<(), Fail> {
+    let alloc = rt.alloc();
+    for (upper, lower, count, below) in &COUNTED {
+        let a = Natural::of_literal(alloc, upper.as_bytes())?;
+        let b = Natural::of_literal(alloc, lower.as_bytes())?;
+        let left = a.minus(alloc, &b)?;
+        assert_eq!(rt; left.below(*count), *below, "{upper} {lower} {count}");
+    }
+    Ok(())
+}
