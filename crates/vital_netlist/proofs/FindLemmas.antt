@@ -144,3 +144,7 @@ found_is xs b (Err i) ordered inside found =
     sym
     (position_from-zero (is_same b) xs
     ∙ position-none (is_same b) 0 xs (λ k d lt. not-same (get_or xs k d) b (by-point xs b i k d (nat_lt k i) refl point.0 point.1 lt)))
+
+-- where a bit stands that is equal by the order is the number of the bit
+pub equal-there : (xs : List Bit) (b x : Bit) (i : ℕ) → AreOrdered xs → i < length xs → ((d : Bit) → x ≡ get_or xs i d) → order x b ≡ Equal → position (is_same b) xs ≡ Some i
+equal-there xs b x i ordered inside here equal = sym (found_is xs b (Ok i) ordered inside (λ d. ap (λ y. order y b) (sym (here d)) ∙ equal))

@@ -3,6 +3,7 @@
 #![tactic(auto)]
 
 mod bit;
+mod bit_index;
 mod bit_search;
 mod cell_laws;
 mod cells;

@@ -8,7 +8,7 @@ ghost use Rattle.vital_netlist.specs.Put as put';
 ghost use Rattle.vital_netlist.specs.declared.signals.SignalsError.TheVariants.{NoMemory};
 
 use crate::bit::Bit;
-use crate::bit_search::number_among;
+use crate::bit_index::BitIndex;
 use crate::netlist::Netlist;
 use std::alloc::{AllocError, AllocFailed, Global};
 use std::marker::Model;
@@ -142,6 +142,7 @@ fn bits_of(alloc: Global, netlist: &Netlist<'_>) -> Result<Vec<Bit>, SignalsErro
 #[derive(Drop)]
 pub struct Signals {
     bits: Vec<Bit>,
+    index: BitIndex,
 }
 
 impl Model for Signals {
@@ -162,7 +163,8 @@ impl Signals {
         ensures { spec.AreSignals netlist.now.files netlist.now.instances result }
     {
         let bits = bits_of(alloc, netlist)?;
-        Ok(Signals { bits })
+        let index = BitIndex::new(alloc, &bits)?;
+        Ok(Signals { bits, index })
     }
 
     /// The bits, in order.
@@ -172,15 +174,16 @@ impl Signals {
         &self.bits
     }
 
-    /// The number of the signal that a bit is, if it is its own net. It takes time in proportion to the digits of the number of signals.
+    /// The number of the signal that a bit is, if it is its own net. Where not all bits of its port or signal are, it takes time in proportion
+    /// to the digits of the number of signals.
     fn number_of_own(&self, bit: &Bit) -> Option<usize>
         ensures { result ≡ position (is_same bit.now) self.now }
     {
-        number_among(&self.bits, bit)
+        self.index.number_among(&self.bits, bit)
     }
 
-    /// The number of the signal of a bit. It takes time in proportion to the labels on the path of the instance of the bit, and to the digits
-    /// of the number of signals.
+    /// The number of the signal of a bit. It takes time in proportion to the labels on the path of the instance of the bit, and where not
+    /// all bits of the port or signal of its net are nets to the digits of the number of signals.
     pub fn number(
         &self,
         alloc: Global,
