@@ -14,10 +14,19 @@ path_of_labels : (others : List (List ℕ)) (last : List ℕ) → path_name (oth
 path_of_labels [] last = refl
 path_of_labels (a ∷ others) last = dotted-last a last others
 
-pub path_of_parts : {A : Type 0} (seen : A → List ℕ) (all others : List A) (last : A) (dots path : List ℕ) → all ≡ others ++ last ∷ [] → dots ≡ with_dots (map seen others) → path ≡ dots ++ seen last → path ≡ path_name (map seen all)
+path_of_parts : {A : Type 0} (seen : A → List ℕ) (all others : List A) (last : A) (dots path : List ℕ) → all ≡ others ++ last ∷ [] → dots ≡ with_dots (map seen others) → path ≡ dots ++ seen last → path ≡ path_name (map seen all)
 path_of_parts seen all others last dots path parts is put =
     put
     ∙ ap (λ text. text ++ seen last) is
     ∙ sym (path_of_labels (map seen others) (seen last))
     ∙ ap path_name (sym (map-append seen others (last ∷ [])))
     ∙ ap (λ ls. path_name (map seen ls)) (sym parts)
+
+-- the same behind a text
+pub path_behind : {A : Type 0} (seen : A → List ℕ) (text : List ℕ) (all others : List A) (last : A) (dots path : List ℕ) → all ≡ others ++ last ∷ [] → dots ≡ text ++ with_dots (map seen others) → path ≡ dots ++ seen last → path ≡ text ++ path_name (map seen all)
+path_behind seen text all others last dots path parts is put =
+    let own = with_dots (map seen others) in
+    put
+    ∙ ap (λ t. t ++ seen last) is
+    ∙ append_assoc text own (seen last)
+    ∙ ap (λ t. text ++ t) (path_of_parts seen all others last own (own ++ seen last) parts refl refl)

@@ -16,6 +16,11 @@ pub record TreeSignal : Type 0 where
   pub is_resolved : Bool
   pub drivers : ℕ
 
+-- A name in a design, as text.
+pub record NameText : Type 0 where
+  pub design : Design
+  pub name : List ℕ
+
 abbrev pub path_of : Design → ℕ → List ℕ
 path_of d n = path_name (labels d n)
 

@@ -8,7 +8,7 @@ ghost use Rattle.vital_netlist.specs.Trees as trees;
 
 use crate::design_lists::{DesignDriver, DesignInstance, DesignLists, DesignSignal, driver_counts};
 use crate::labels::labels_of;
-use crate::names::{path_name, signal_name};
+use crate::names::{put_bit, put_dots, put_path};
 use std::alloc::{AllocError, Global};
 use std::marker::Model;
 use vital_base::{List, Ports};
@@ -125,7 +125,9 @@ impl<'a> Design<'a> {
     pub fn path(&self, alloc: Global, instance: usize) -> Result<Vec<u8>, AllocError>
         ensures { IfOk result (λ path. path.items ≡ trees.path_of self.now instance) }
     {
-        path_name(alloc, &self.labels(alloc, instance)?)
+        let mut path = Vec::new(alloc);
+        put_path(&mut path, &self.labels(alloc, instance)?)?;
+        Ok(path)
     }
 
     /// The name of a signal as it is printed: the labels on the path of its instance, a dot behind each, and then its identifier with its
@@ -137,8 +139,10 @@ impl<'a> Design<'a> {
     ) -> Result<Vec<u8>, AllocError>
         ensures { IfOk result (λ name. name.items ≡ trees.name_of self.now (spec.lent_signal signal.now)) }
     {
-        let labels = self.labels(alloc, signal.instance)?;
-        signal_name(alloc, &labels, signal.identifier, &signal.index)
+        let mut name = Vec::new(alloc);
+        put_dots(&mut name, &self.labels(alloc, signal.instance)?)?;
+        put_bit(alloc, &mut name, signal.identifier, &signal.index)?;
+        Ok(name)
     }
 
     /// How many drivers each signal has. It takes time in proportion to the signals and drivers.

@@ -16,6 +16,7 @@ mod elaboration;
 mod found;
 mod labels;
 mod laws;
+mod name_text;
 mod names;
 mod net_fault;
 mod netlist;
@@ -37,6 +38,7 @@ pub use design_lists::{
 pub use design_parts::DesignParts;
 pub use driven::driven_numbers;
 pub use elaboration::elaborate;
+pub use name_text::NameText;
 pub use names::bit_name;
 pub use net_fault::{ElabError, Mark, NetFault, NetLimit};
 pub use netlist::Netlist;

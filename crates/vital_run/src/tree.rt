@@ -9,23 +9,24 @@ ghost use Rattle.vital_run.specs.Trees as spec;
 
 use std::alloc::Global;
 use vital_base::Sink;
-use vital_netlist::{Design, DesignInstance, DesignSignal};
+use vital_netlist::{Design, DesignInstance, DesignSignal, NameText};
 use vital_report::{Line, PrintError, Printer};
 
 /// Prints the line of the instance of a number.
 fn print_instance<K: Sink>(
     alloc: Global,
-    design: &Design<'_>,
+    names: &mut NameText<'_, '_>,
     number: usize,
     instance: &DesignInstance<'_>,
     printer: &mut Printer<'_, K>,
 ) -> Result<(), PrintError>
     requires goes_on { printer.old.stopped ≡ false }
-    ensures { PrintsPart result (bytes_of (spec.instance_line (tree_instance design.now (number, lent_instance instance.now)))) printer.old printer.new }
+    ensures same { names.new.design ≡ names.old.design }
+    ensures prints { PrintsPart result (bytes_of (spec.instance_line (tree_instance names.old.design (number, lent_instance instance.now)))) printer.old printer.new }
 {
-    let path = design.path(alloc, number)?;
+    names.write_path(alloc, number)?;
     let line = Line::Instance {
-        path: &path,
+        path: names.as_slice(),
         unit: instance.unit,
         is_cell: instance.cell.is_some(),
     };
@@ -44,8 +45,9 @@ fn print_instances<K: Sink>(
     requires goes_on { printer.old.stopped ≡ false }
     ensures { PrintsPart result (text_of (map spec.instance_line (tree_instances design.now))) printer.old printer.new }
 {
+    let mut names = NameText::new(alloc, design);
     for (number, instance) in instances.iter().enumerate() {
-        print_instance(alloc, design, number, instance, printer)?;
+        print_instance(alloc, &mut names, number, instance, printer)?;
     }
     Ok(())
 }
@@ -53,17 +55,18 @@ fn print_instances<K: Sink>(
 /// Prints the line of a signal with so many drivers.
 fn print_signal<K: Sink>(
     alloc: Global,
-    design: &Design<'_>,
+    names: &mut NameText<'_, '_>,
     signal: &DesignSignal<'_>,
     drivers: usize,
     printer: &mut Printer<'_, K>,
 ) -> Result<(), PrintError>
     requires goes_on { printer.old.stopped ≡ false }
-    ensures { PrintsPart result (bytes_of (signal' (name_of design.now (lent_signal signal.now)) signal.now.is_resolved drivers)) printer.old printer.new }
+    ensures same { names.new.design ≡ names.old.design }
+    ensures prints { PrintsPart result (bytes_of (signal' (name_of names.old.design (lent_signal signal.now)) signal.now.is_resolved drivers)) printer.old printer.new }
 {
-    let name = design.signal_name(alloc, signal)?;
+    names.write_signal(alloc, signal)?;
     let line = Line::Signal {
-        name: &name,
+        name: names.as_slice(),
         is_resolved: signal.is_resolved,
         drivers: drivers as u64,
     };
@@ -82,8 +85,9 @@ fn print_signals<K: Sink>(
 {
     let counts = design.driver_counts(alloc)?;
     let all = design.signals();
+    let mut names = NameText::new(alloc, design);
     for number in 0..all.len() {
-        print_signal(alloc, design, &all[number], counts[number], printer)?;
+        print_signal(alloc, &mut names, &all[number], counts[number], printer)?;
     }
     Ok(())
 }

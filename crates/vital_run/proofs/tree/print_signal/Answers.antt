@@ -5,9 +5,9 @@ use Rattle.vital_run.proofs.Parts.{passes_no_memory}
 use Rattle.vital_run.proofs.Texts.{printed_none}
 use Rattle.vital_run.proofs.tree.print_signal.Goals as goal
 
-pub returns-in_err-name : goal.returns-in_err-name
-returns-in_err-name g c =
+pub returns-in_err-write_signal-clause-prints : goal.returns-in_err-write_signal-clause-prints
+returns-in_err-write_signal-clause-prints g c =
     let old = c.args.printer.now in
     let told = c.args.signal.now in
-    let whole = bytes_of (signal (name_of c.args.design.now (lent_signal told)) told.is_resolved c.args.drivers) in
+    let whole = bytes_of (signal (name_of c.args.names.now.design (lent_signal told)) told.is_resolved c.args.drivers) in
     passes_no_memory c.from_residual.result whole old old c.from_residual.ensures.1 (0, printed_none old c.requires.goes_on)

@@ -1,5 +1,5 @@
-use Rattle.std.proofs.Common.{◌≡◌, List, ℕ, ◌+◌, Err, length, ap, map, subst, arith}
-use Rattle.vital_netlist.specs.Designs.{drivers_of, lent_signal}
+use Rattle.std.proofs.Common.{◌≡◌, List, ℕ, ◌+◌, Err, length, ap, map, subst, ◌∙◌, arith}
+use Rattle.vital_netlist.specs.Designs.{Design, drivers_of, lent_signal}
 use Rattle.vital_netlist.specs.Trees.{name_of, tree_signal, tree_signals}
 use Rattle.vital_report.specs.Lines.{bytes_of, signal, text_of}
 use Rattle.vital_report.specs.Reporters.{Printed, PrintsPart}
@@ -30,9 +30,10 @@ returns-in_err-print_signal g c =
     let whole = text_of (map signal_line (tree_signals d)) in
     let piece = bytes_of (signal_line (tree_signal d (i, seen))) in
     let one = one_signal lent_signal d c.signals-all.result.now i here c.signals-all.ensures (omega (arith, c.loop-number-test.true)) c.index-all-number.is in
-    let part = subst (λ (left : List ℕ). Part start whole left c.loop-number.printer) one c.loop-number.invariant in
+    let part = subst (λ (left : List ℕ). Part start whole left c.loop-number.printer) one c.loop-number.invariant.1 in
     let count : c.index.result.now ≡ drivers_of d i = count_at lent_signal d c.signals-all.result.now i c.index.result.now c.signals-all.ensures (omega (arith, c.loop-number-test.true)) (rw c.in_ok-counts.ensures at c.index.ensures) in
-    let written = subst (λ (n : ℕ). PrintsPart {T = Unit {0}} (Err c.in_err-print_signal.field-0.0) (bytes_of (signal (name_of d seen) seen.is_resolved n)) c.loop-number.printer c.print_signal.new.printer) count c.in_err-print_signal.ensures in
+    let lines = λ (e : Design) (n : ℕ). PrintsPart {T = Unit {0}} (Err c.in_err-print_signal.field-0.0) (bytes_of (signal (name_of e seen) seen.is_resolved n)) c.loop-number.printer c.print_signal.new.printer in
+    let written = subst (λ (n : ℕ). lines d n) count (subst (λ (e : Design). lines e c.index.result.now) c.loop-number.invariant.0 c.in_err-print_signal.ensures.prints) in
     passes_failure (Unit {0}) c.from_residual-in_err-print_signal.result _ start whole piece (signals_left d (i + 1)) c.loop-number.printer c.print_signal.new.printer c.from_residual-in_err-print_signal.ensures.1 part written
 
 pub loop-number-preserved : goal.loop-number-preserved
@@ -45,10 +46,11 @@ loop-number-preserved g c =
     let whole = text_of (map signal_line (tree_signals d)) in
     let piece = bytes_of (signal_line (tree_signal d (i, seen))) in
     let one = one_signal lent_signal d c.signals-all.result.now i here c.signals-all.ensures (omega (arith, c.loop-number-test.true)) c.index-all-number.is in
-    let part = subst (λ (left : List ℕ). Part start whole left c.loop-number.printer) one c.loop-number.invariant in
+    let part = subst (λ (left : List ℕ). Part start whole left c.loop-number.printer) one c.loop-number.invariant.1 in
     let count : c.index.result.now ≡ drivers_of d i = count_at lent_signal d c.signals-all.result.now i c.index.result.now c.signals-all.ensures (omega (arith, c.loop-number-test.true)) (rw c.in_ok-counts.ensures at c.index.ensures) in
-    let written = subst (λ (n : ℕ). Printed (bytes_of (signal (name_of d seen) seen.is_resolved n)) c.loop-number.printer c.print_signal.new.printer) count c.in_ok-print_signal.ensures in
-    part_goes_on start whole piece (signals_left d (i + 1)) c.loop-number.printer c.print_signal.new.printer part written
+    let lines = λ (e : Design) (n : ℕ). Printed (bytes_of (signal (name_of e seen) seen.is_resolved n)) c.loop-number.printer c.print_signal.new.printer in
+    let written = subst (λ (n : ℕ). lines d n) count (subst (λ (e : Design). lines e c.index.result.now) c.loop-number.invariant.0 c.in_ok-print_signal.ensures.prints) in
+    (c.in_ok-print_signal.ensures.same ∙ c.loop-number.invariant.0, part_goes_on start whole piece (signals_left d (i + 1)) c.loop-number.printer c.print_signal.new.printer part written)
 
 pub returns : goal.returns
 returns g c =
@@ -56,4 +58,4 @@ returns g c =
     let start = c.args.printer.now in
     let whole = text_of (map signal_line (tree_signals d)) in
     let none = no_signal lent_signal d c.signals-all.result.now c.loop-number.number c.signals-all.ensures (omega (arith, c.loop-number-test.false)) in
-    part_ends start whole c.loop-number.printer (subst (λ (left : List ℕ). Part start whole left c.loop-number.printer) none c.loop-number.invariant)
+    part_ends start whole c.loop-number.printer (subst (λ (left : List ℕ). Part start whole left c.loop-number.printer) none c.loop-number.invariant.1)

@@ -1,4 +1,4 @@
-use Rattle.std.proofs.Common.{map}
+use Rattle.std.proofs.Common.{◌≡◌, map}
 use Rattle.vital_netlist.specs.Trees.{tree_signals}
 use Rattle.vital_report.specs.Lines.{text_of}
 use Rattle.vital_run.specs.Trees.{signal_line}
@@ -7,4 +7,4 @@ use Rattle.vital_run.proofs.TreeLines.{signals_left}
 use Rattle.vital_run.proofs.tree.print_signals.Given as goal
 
 abbrev pub invariant-loop-number : goal.invariant-loop-number
-invariant-loop-number g l = Part l.fn.printer (text_of (map signal_line (tree_signals l.design))) (signals_left l.design l.number) l.printer
+invariant-loop-number g l = (l.names.design ≡ l.design) × Part l.fn.printer (text_of (map signal_line (tree_signals l.design))) (signals_left l.design l.number) l.printer
