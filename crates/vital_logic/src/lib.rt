@@ -3,8 +3,6 @@
 
 mod level;
 mod tables;
-#[cfg(test)]
-mod tests;
 
 pub use level::{Level, from_byte, to_byte};
 pub use tables::{and2, not1, or2, resolve, resolve2, to_ux01, to_x01, to_x01z, xor2};

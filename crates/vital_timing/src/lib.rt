@@ -4,8 +4,6 @@
 
 mod delay;
 mod glitch_mode;
-#[cfg(test)]
-mod tests;
 mod time_literal;
 
 pub use delay::{Delay, DelayType};

@@ -247,14 +247,3 @@ fn steps_leave_what_they_should(rt: HostRuntime) -> Result<(), Fail> {
     }
     Ok(())
 }
-
-#[test]
-fn values_and_times_are_told(rt: HostRuntime) -> Result<(), Fail> {
-    let mut agenda = QueueAgenda::new(rt.alloc(), &[Zero])?;
-    assert!(rt; agenda.next_time().is_none());
-    agenda.assign(0, Transport, One, 7)?;
-    assert_eq!(rt; agenda.next_time(), Some(7));
-    assert_eq!(rt; agenda.now(), 0);
-    assert_eq!(rt; agenda.current(0), Zero);
-    Ok(())
-}

@@ -1,4 +1,0 @@
-mod calls;
-mod changes;
-mod paths;
-mod scheduling;

@@ -1,7 +1,0 @@
-use Rattle.std.proofs.Common.{refl, sym, subst}
-use Rattle.vital_ll.specs.Choice.{IsWellFormed}
-use Rattle.vital_ll.specs.Example.{undecided, undecided_ranks}
-use Rattle.vital_syntax_rows.proofs.tests.grammars.names_the_first_rule_that_is_not_decided.Goals as goal
-
-pub make-requires : goal.make-requires
-make-requires g c = subst (λ g. IsWellFormed g) (sym c.in_ok-grammar.ensures) (c.ranks_derive.ensures undecided undecided_ranks refl)

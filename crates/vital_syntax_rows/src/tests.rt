@@ -1,2 +1,0 @@
-mod grammars;
-mod lexemes;

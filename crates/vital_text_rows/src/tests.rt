@@ -1,4 +1,0 @@
-mod designs;
-mod devices;
-mod lines;
-mod stimuli;

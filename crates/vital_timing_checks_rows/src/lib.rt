@@ -1,6 +1,0 @@
-//! Edges and timing checks, beside what they answer, worked out by hand: tests alone, which stand in a crate of their own because a
-//! crate with tests is proved twice.
-#![tactic(auto)]
-
-#[cfg(test)]
-mod tests;
