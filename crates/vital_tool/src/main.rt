@@ -9,9 +9,6 @@ use std::rt::Env;
 use vital_base::{FileShelf, StdSink, Word};
 use vital_run::run;
 
-#[cfg(test)]
-mod tests;
-
 /// The exit status where a word could not be read because it is no UTF-8.
 const WORDS_UNREADABLE: u8 = 15;
 

@@ -5,8 +5,6 @@ mod command;
 mod job;
 mod key;
 mod refusal;
-#[cfg(test)]
-mod tests;
 
 pub use command::{Command, KeyRule};
 pub use job::{Job, JobError, NamedFile, Play, Sim, Task, Tree, read_job};

@@ -1,6 +1,0 @@
-//! Texts beside what is read of them, written by hand: tests alone, which stand in a crate of their own because a crate with
-//! tests is proved twice.
-#![tactic(auto)]
-
-#[cfg(test)]
-mod tests;

@@ -1,0 +1,52 @@
+//! Goes over the worked rows of the whole program, and of the parts below it that read files, words and names. The first word of a row is a view of
+//! such a part; any other words are those of a run of the program over devices in memory.
+#![tactic(auto)]
+
+mod program;
+mod views;
+
+use self::program::{answer_of_run, words_of};
+use self::views::view;
+use std::alloc::{AllocError, Global};
+use std::fs;
+use std::process::ExitCode;
+use std::test::Fail;
+use vital_row_files::{Answer, Answers, GivenFile, Passing, Row, go_over, pass};
+
+/// What answers the rows: the views and the program.
+struct WorkedRows;
+
+impl Answers for WorkedRows {
+    fn answer(
+        alloc: Global,
+        words: &[String],
+        files: &[GivenFile],
+        row: &Row,
+    ) -> Result<Answer, AllocError> {
+        let words = words_of(alloc, words, files)?;
+        match view(alloc, words.as_slice(), files)? {
+            Some(text) => Ok(Answer {
+                bytes: text.into_bytes(),
+                status: 0,
+            }),
+            None => answer_of_run(alloc, &words, files, row),
+        }
+    }
+}
+
+/// Prints what is said of rows that are wrong, and how many pass.
+fn show_wrong_rows(rt: &HostRuntime) -> Result<(), Fail> {
+    let text = fs::read_to_string(rt, "wrong.toml")?;
+    let Passing { rows, passed, said } = pass::<WorkedRows>(rt.alloc(), text.as_str())?;
+    print!(rt; "{said}wrong.toml: {passed} of {rows} rows\n")?;
+    Ok(())
+}
+
+fn main(rt: HostRuntime) -> Result<ExitCode, Fail> {
+    show_wrong_rows(&rt)?;
+    Ok(if go_over::<WorkedRows>(&rt)? {
+        ExitCode::SUCCESS
+    } else {
+        ExitCode::FAILURE
+    })
+}

@@ -1,0 +1,81 @@
+//! A run of the program over devices in memory.
+
+use std::alloc::{AllocError, Global};
+use vital_base::{Bytes, List, MemFile, MemShelf, MemSink, Name, Word};
+use vital_row_files::{Answer, Device, GivenFile, Row};
+use vital_run::run;
+
+/// How many bytes a call of a device moves where the row says nothing of it.
+const PIECE: u32 = 65_536;
+
+/// The words of a row, and behind them the lines of its file `words`, if it has one.
+pub fn words_of(
+    alloc: Global,
+    words: &[String],
+    files: &[GivenFile],
+) -> Result<Vec<Word>, AllocError> {
+    let mut all = Vec::new(alloc);
+    for word in words {
+        all.push(Word::new(Vec::from_slice(alloc, word.as_bytes())?))?;
+    }
+    for file in files {
+        if file.name.as_str() == "words" {
+            put_lines(alloc, &mut all, file.bytes.as_slice())?;
+        }
+    }
+    Ok(all)
+}
+
+/// Puts each line of a text that isn't empty as a word.
+fn put_lines(alloc: Global, words: &mut Vec<Word>, text: &[u8]) -> Result<(), AllocError> {
+    for line in text.split(|byte| *byte == b'\n') {
+        if !line.is_empty() {
+            words.push(Word::new(Vec::from_slice(alloc, line)?))?;
+        }
+    }
+    Ok(())
+}
+
+/// The files of a row, in memory.
+fn files_of(alloc: Global, files: &[GivenFile]) -> Result<List<MemFile>, AllocError> {
+    let mut all = Vec::new(alloc);
+    for file in files {
+        let name = Name::new(Vec::from_slice(alloc, file.name.as_bytes())?);
+        let bytes = Bytes::new(Vec::from_slice(alloc, file.bytes.as_slice())?);
+        all.push(MemFile { name, bytes })?;
+    }
+    Ok(List::new(all))
+}
+
+fn piece_of(device: &Option<Device>) -> u32 {
+    match device {
+        Some(device) => device.piece,
+        None => PIECE,
+    }
+}
+
+/// The numbers of the calls of a device that fail.
+fn fails_of(alloc: Global, device: &Option<Device>) -> Result<List<u32>, AllocError> {
+    match device {
+        Some(device) => Ok(List::new(Vec::from_slice(alloc, device.fails.as_slice())?)),
+        None => Ok(List::new(Vec::new(alloc))),
+    }
+}
+
+/// What the program writes, and its status, where these are its words and its files.
+pub fn answer_of_run(
+    alloc: Global,
+    words: &Vec<Word>,
+    files: &[GivenFile],
+    row: &Row,
+) -> Result<Answer, AllocError> {
+    let files = files_of(alloc, files)?;
+    let piece = piece_of(&row.shelf).max(1);
+    let mut shelf = MemShelf::new(files, piece, fails_of(alloc, &row.shelf)?);
+    let mut sink = MemSink::new(alloc, piece_of(&row.sink), fails_of(alloc, &row.sink)?);
+    let status = run(alloc, words, &mut shelf, &mut sink);
+    Ok(Answer {
+        bytes: Vec::from_slice(alloc, sink.bytes())?,
+        status: status.number(),
+    })
+}
