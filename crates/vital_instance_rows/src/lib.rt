@@ -1,6 +1,0 @@
-//! Libraries beside the instances under their tops, written by hand: tests alone, which stand in a crate of their own so that instances
-//! stand on no reader.
-#![tactic(auto)]
-
-#[cfg(test)]
-mod tests;
