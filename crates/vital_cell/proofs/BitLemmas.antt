@@ -9,7 +9,7 @@ use Rattle.std.proofs.lemmas.List.{length-append, length-map}
 use Rattle.std.proofs.lemmas.List.Folds.{list_any-append}
 use Rattle.std.proofs.lemmas.List.Quantifiers.{position-Some}
 use Rattle.vital_actuals.specs.Kinds.{is_driven_mode}
-use Rattle.vital_cell.proofs.ListLemmas.{either, first-or, second-or}
+use Rattle.vital_cell.proofs.CellListLemmas.{either, first-or, second-or}
 use Rattle.vital_cell.proofs.SoundLemmas.{first-holds}
 use Rattle.vital_objects.specs.declared.port.Port.{Port}
 use Rattle.vital_objects.specs.declared.signal.Signal.{Signal}

@@ -7,18 +7,18 @@ use Rattle.std.proofs.lemmas.List.Elements.{All-drop, All-from_recursion, All-ta
 use Rattle.std.proofs.lemmas.List.Sums.{sum_by-cons, sum_by_push}
 use Rattle.vital_cell.specs.Compiled.{CompiledStands, IsMade, with_drivers}
 use Rattle.vital_cell.specs.Programs.{IsProcess}
-use Rattle.vital_cell.proofs.ListLemmas.{all-behind}
-use Rattle.vital_cell.proofs.NumberLemmas.{process-of-cell, wire-of-cell}
-use Rattle.vital_cell.proofs.ProcessLemmas.{process-stands, sound-in-values, wire-stands}
-use Rattle.vital_checked.specs.Fits.{FitsCell}
+use Rattle.vital_cell.proofs.CellListLemmas.{all-behind}
+use Rattle.vital_cell.proofs.CellNumberLemmas.{process-of-cell, wire-of-cell}
+use Rattle.vital_cell.proofs.CellProcessLemmas.{process-stands, sound-in-values, wire-stands}
+use Rattle.vital_typed_cells.specs.Fits.{FitsCell}
 use Rattle.vital_execution.specs.Environments.{control_of}
 use Rattle.vital_execution.specs.Execution.{Executed, Process', Wire, all_executed, drivers_of, first_driver}
 use Rattle.vital_machine.specs.declared.program.Process.{Process}
 use Rattle.vital_machine.specs.Fits.{StepsAreOfCell}
 use Rattle.vital_operands.specs.declared.tree.Control.TheVariants as control
 use Rattle.vital_typed_cells.specs.Sound.{IsSound, IsSoundProcess, bit_count, is_sound_wire}
-use Rattle.vital_steps.specs.Laws.{KindsSuit, SlotsBegin, StepsKeepKinds, StepsStand}
-use Rattle.vital_steps.specs.Values.{scope_of_cell}
+use Rattle.vital_cell.specs.Laws.{KindsSuit, SlotsBegin, StepsKeepKinds, StepsStand}
+use Rattle.vital_cell.specs.Values.{scope_of_cell}
 use Rattle.vital_timing.specs.declared.delay.Delay.{Delay}
 use Rattle.vital_typed_cells.specs.declared.typed_cell.TypedCell.{TypedCell}
 use Rattle.vital_worths.specs.Packages.{packages_worth}

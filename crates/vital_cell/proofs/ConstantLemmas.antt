@@ -8,7 +8,7 @@ use Rattle.std.proofs.lemmas.Bool.{false≢true}
 use Rattle.std.proofs.lemmas.List.{length-replicate}
 use Rattle.std.proofs.lemmas.Map.Keys.{IsDistinct-head, IsDistinct-tail}
 use Rattle.std.proofs.lemmas.Slice.Eq.{bytes_eq-Decides}
-use Rattle.vital_cell.proofs.ListLemmas.{any-swapped, either, zip-push}
+use Rattle.vital_cell.proofs.CellListLemmas.{any-swapped, either, zip-push}
 use Rattle.vital_cell.proofs.SoundLemmas.{first-holds}
 use Rattle.vital_declarations.specs.declared.declared_type.TableType.TheVariants as table
 use Rattle.vital_execution.specs.Environments.{NamedWorth, constant_worth}
@@ -23,9 +23,9 @@ use Rattle.vital_operands.specs.declared.tree.ConstantName.{ConstantName}
 use Rattle.vital_operands.specs.declared.tree.ConstantName.TheVariants as constant
 use Rattle.vital_typed_cells.specs.Fitting.{are_parted, is_table as is_table'}
 use Rattle.vital_typed_cells.specs.Named.{constant_is, has_package_rows, has_rows}
-use Rattle.vital_steps.specs.Scopes.{Scope}
-use Rattle.vital_steps.specs.Sound.{has_state_table, has_table, rows_named}
-use Rattle.vital_steps.specs.Values.{named_worth, with_constants, worths_in}
+use Rattle.vital_cell.specs.Scopes.{Scope}
+use Rattle.vital_cell.specs.Sound.{has_state_table, has_table, rows_named}
+use Rattle.vital_cell.specs.Values.{named_worth, with_constants, worths_in}
 use Rattle.vital_table.specs.Tables.{is_table}
 use Rattle.vital_worths.specs.Expressions.{Names, rows_of}
 use Rattle.vital_worths.specs.Packages.{packages_worth, rows_in, worth_at}

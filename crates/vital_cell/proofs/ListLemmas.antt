@@ -1,79 +1,70 @@
--- Lists of which each element, or each pair, holds to something.
-use Rattle.std.proofs.Common.{◌≡◌, true, false, List, [], ◌∷◌, ◌++◌, refl, inl, inr}
-use Rattle.std.specs.Prelude.{Bool, ◌||◌, ◌&&◌, ◌⊎◌}
-use Rattle.std.specs.List.{AllByRecursion, AllZip, list_all, list_any}
+-- Lists that are made element by element.
+use Rattle.std.proofs.Common.{◌≡◌, ℕ, zero, suc, ◌+◌, ◌<◌, true, false, List, [], ◌∷◌, ◌++◌, length, take, map, get_or, refl, sym, ◌∙◌, ap, subst, arith}
+use Rattle.std.specs.Prelude.{Bool, ◌&&◌}
+use Rattle.std.specs.List.{AllZip, enumerate_from, list_all}
 use Rattle.std.proofs.lemmas.Bool.{false≢true}
+use Rattle.std.specs.List.{fold}
+use Rattle.std.proofs.lemmas.List.{length-take-le, take_more, map-append}
+use Rattle.std.proofs.lemmas.List.Sums.{fold-append}
 
--- ---- tests
+-- One element more.
+pub map-take : {A B : Type 0} (see : A → B) (xs : List A) (i : ℕ) (x : A) → i < length xs → x ≡ get_or xs i x → map see (take (i + 1) xs) ≡ map see (take i xs) ++ see x ∷ []
+map-take see xs i x within is =
+    ap (map see) (take_more xs i x within ∙ ap (λ y. take i xs ++ y ∷ []) (sym is)) ∙ map-append see (take i xs) (x ∷ [])
 
-pub either : (a b : Bool) → (a || b) ≡ true → (a ≡ true) ⊎ (b ≡ true)
-either true b is = inl refl
-either false b is = inr is
+-- A fold goes on with one element more.
+pub fold-take : {A B C : Type 0} (f : C → B → C) (see : A → B) (first : C) (xs : List A) (i : ℕ) (x : A) (old new : C) → i < length xs → x ≡ get_or xs i x → old ≡ fold f first (map see (take i xs)) → new ≡ f old (see x) → new ≡ fold f first (map see (take (i + 1) xs))
+fold-take f see first xs i x old new within is before put =
+    put
+    ∙ ap (λ y. f y (see x)) before
+    ∙ sym (fold-append f first (map see (take i xs)) (see x ∷ []))
+    ∙ ap (fold f first) (sym (map-take see xs i x within is))
 
-pub first-or : (a b : Bool) → a ≡ true → (a || b) ≡ true
-first-or true b is = refl
-first-or false b is = absurd (false≢true is)
+-- A list in the making that has the images of the front of another has those of one element more.
+pub map-more : {A B : Type 0} (g : A → B) (old : List B) (xs : List A) (i : ℕ) (x : A) (y : B) (new : List B) → i < length xs → x ≡ get_or xs i x → old ≡ map g (take i xs) → y ≡ g x → new ≡ old ++ y ∷ [] → new ≡ map g (take (i + 1) xs)
+map-more g old xs i x y new within is before same put =
+    put ∙ ap (λ ys. ys ++ y ∷ []) before ∙ ap (λ z. map g (take i xs) ++ z ∷ []) same ∙ sym (map-take g xs i x within is)
 
-pub second-or : (a b : Bool) → b ≡ true → (a || b) ≡ true
-second-or true b is = refl
-second-or false b is = is
-
-pub and-more : {a b c d : Bool} → (a ≡ true → c ≡ true) → (b ≡ true → d ≡ true) → (a && b) ≡ true → (c && d) ≡ true
-and-more {a} {b} {c} {d} first second is = joined c d (first (first-is a b is)) (second (second-is a b is))
-  where
-    first-is : (x y : Bool) → (x && y) ≡ true → x ≡ true
-    first-is true y both = refl
-    first-is false y both = both
-
-    second-is : (x y : Bool) → (x && y) ≡ true → y ≡ true
-    second-is true y both = both
-    second-is false y both = absurd (false≢true both)
-
-    joined : (x y : Bool) → x ≡ true → y ≡ true → (x && y) ≡ true
-    joined true y one other = other
-    joined false y one other = one
-
-pub all-more : {A : Type 0} (p q : A → Bool) → ((x : A) → p x ≡ true → q x ≡ true) → (xs : List A) → list_all p xs ≡ true → list_all q xs ≡ true
-all-more p q more [] is = refl
-all-more p q more (x ∷ xs) is = and-more (more x) (all-more p q more xs) is
-
-any-behind : {A : Type 0} (test : A → Bool) (xs ys : List A) → list_any test ys ≡ true → list_any test (xs ++ ys) ≡ true
-any-behind test [] ys is = is
-any-behind test (x ∷ xs) ys is = second-or (test x) (list_any test (xs ++ ys)) (any-behind test xs ys is)
-
-any-before : {A : Type 0} (test : A → Bool) (xs ys : List A) → list_any test xs ≡ true → list_any test (xs ++ ys) ≡ true
-any-before test [] ys is = absurd (false≢true is)
-any-before test (x ∷ xs) ys is =
-    elim (either (test x) (list_any test xs) is) [
-      | inl here ↦ first-or (test x) (list_any test (xs ++ ys)) here
-      | inr later ↦ second-or (test x) (list_any test (xs ++ ys)) (any-before test xs ys later)
-    ]
-
--- What one of two lists has, both have in either order.
-pub any-swapped : {A : Type 0} (test : A → Bool) (xs ys : List A) → list_any test (xs ++ ys) ≡ true → list_any test (ys ++ xs) ≡ true
-any-swapped test [] ys is = any-before test ys [] is
-any-swapped test (x ∷ xs) ys is =
-    elim (either (test x) (list_any test (xs ++ ys)) is) [
-      | inl here ↦ any-behind test ys (x ∷ xs) (first-or (test x) (list_any test xs) here)
-      | inr later ↦ any-inserted test x ys xs (any-swapped test xs ys later)
-    ]
-  where
-    any-inserted : {A : Type 0} (p : A → Bool) (y : A) (us vs : List A) → list_any p (us ++ vs) ≡ true → list_any p (us ++ y ∷ vs) ≡ true
-    any-inserted p y [] vs held = second-or (p y) (list_any p vs) held
-    any-inserted p y (u ∷ us) vs held =
-        elim (either (p u) (list_any p (us ++ vs)) held) [
-          | inl here ↦ first-or (p u) (list_any p (us ++ y ∷ vs)) here
-          | inr later ↦ second-or (p u) (list_any p (us ++ y ∷ vs)) (any-inserted p y us vs later)
-        ]
-
--- ---- elements and pairs
-
-pub all-behind : {A : Type 0} (P : A → Type 0) (xs ys : List A) → AllByRecursion P xs → AllByRecursion P ys → AllByRecursion P (xs ++ ys)
-all-behind P [] ys first others = others
-all-behind P (x ∷ xs) ys first others = (first.0, all-behind P xs ys first.1 others)
-
-pub zip-push : {A B : Type 0} (R : A → B → Type 0) (xs : List A) (ys : List B) (x : A) (y : B) → AllZip R xs ys → R x y → AllZip R (xs ++ x ∷ []) (ys ++ y ∷ [])
+zip-push : {A B : Type 0} (R : A → B → Type 0) (xs : List A) (ys : List B) (x : A) (y : B) → AllZip R xs ys → R x y → AllZip R (xs ++ x ∷ []) (ys ++ y ∷ [])
 zip-push R [] [] x y all here = (here, tt)
 zip-push R [] (w ∷ ws) x y all here = absurd all
 zip-push R (z ∷ zs) [] x y all here = absurd all
 zip-push R (z ∷ zs) (w ∷ ws) x y all here = (all.0, zip-push R zs ws x y all.1 here)
+
+first-of : (a b : Bool) → (a && b) ≡ true → a ≡ true
+first-of true b is = refl
+first-of false b is = is
+
+second-of : (a b : Bool) → (a && b) ≡ true → b ≡ true
+second-of true b is = is
+second-of false b is = absurd (false≢true is)
+
+-- What holds of the elements at each place holds with one more.
+pub zip-turn : {A B : Type 0} (R : A → B → Type 0) (xs : List A) (i : ℕ) (x : A) (y : B) (now new : List B) → i < length xs → x ≡ get_or xs i x → R x y → AllZip R (take i xs) now → new ≡ now ++ y ∷ [] → AllZip R (take (i + 1) xs) new
+zip-turn {A} {B} R xs i x y now new within is here before put =
+    let P : List A → Type 0 = λ zs. AllZip R zs new in
+    let Q : List B → Type 0 = λ zs. AllZip R (take i xs ++ x ∷ []) zs in
+    subst P (sym (take_more xs i x within ∙ ap (λ z. take i xs ++ z ∷ []) (sym is))) (subst Q (sym put) (zip-push R (take i xs) now x y before here))
+
+-- A test that all pass is passed by one of them.
+pub all-item : {A : Type 0} (test : A → Bool) (xs : List A) (i : ℕ) (x : A) → i < length xs → x ≡ get_or xs i x → list_all test xs ≡ true → test x ≡ true
+all-item test [] i x within is all = absurd (omega arith)
+all-item test (y ∷ ys) zero x within is all = ap test is ∙ first-of (test y) (list_all test ys) all
+all-item test (y ∷ ys) (suc i) x within is all = all-item test ys i x (omega arith) is (second-of (test y) (list_all test ys) all)
+
+enumerate-more : {A : Type 0} (n : ℕ) (xs : List A) (x : A) → enumerate_from n (xs ++ x ∷ []) ≡ enumerate_from n xs ++ (n + length xs, x) ∷ []
+enumerate-more n [] x =
+    let same : n ≡ n + 0 = omega arith in
+    ap (λ m. (m, x) ∷ []) same
+enumerate-more n (y ∷ ys) x =
+    let same : (n + 1) + length ys ≡ n + suc (length ys) = omega arith in
+    ap (λ zs. (n, y) ∷ zs) (enumerate-more (n + 1) ys x ∙ ap (λ m. enumerate_from (n + 1) ys ++ (m, x) ∷ []) same)
+
+-- The same where elements are numbered.
+pub numbered-turn : {A B : Type 0} (R : (ℕ × A) → B → Type 0) (n : ℕ) (xs : List A) (i : ℕ) (x : A) (y : B) (now new : List B) → i < length xs → x ≡ get_or xs i x → R (n + i, x) y → AllZip R (enumerate_from n (take i xs)) now → new ≡ now ++ y ∷ [] → AllZip R (enumerate_from n (take (i + 1) xs)) new
+numbered-turn {A} {B} R n xs i x y now new within is here before put =
+    let long : length (take i xs) ≡ i = length-take-le i xs (omega arith) in
+    let P : List (ℕ × A) → Type 0 = λ zs. AllZip R zs new in
+    let Q : List B → Type 0 = λ zs. AllZip R (enumerate_from n (take i xs) ++ (n + i, x) ∷ []) zs in
+    subst P (sym (ap (enumerate_from n) (take_more xs i x within ∙ ap (λ z. take i xs ++ z ∷ []) (sym is)) ∙ enumerate-more n (take i xs) x ∙ ap (λ m. enumerate_from n (take i xs) ++ (n + m, x) ∷ []) long))
+    (subst Q (sym put) (zip-push R (enumerate_from n (take i xs)) now (n + i, x) y before here))

@@ -1,76 +1,139 @@
--- Processes that are put behind others.
-use Rattle.std.proofs.Common.{◌≡◌, ◌<◌, ◌+◌, ◌-◌, ℕ, List, [], ◌∷◌, ◌++◌, length, map, take, drop, get_or, sym, ◌∙◌, ap, subst, append-nil, append_assoc, arith}
-use Rattle.std.specs.Prelude.{All}
-use Rattle.std.specs.List.{AllZip, sum_by}
-use Rattle.std.proofs.lemmas.List.{length-drop, map-append, take_all, take_more}
-use Rattle.std.proofs.lemmas.List.Elements.{All-nil, All-push}
-use Rattle.std.proofs.lemmas.List.Sums.{sum_by-cons, sum_by_push}
-use Rattle.vital_cell.specs.Compiled.{AreMade, ArePut, IsMade, IsPut, with_drivers}
-use Rattle.vital_cell.specs.declared.processes.Processes.{Processes}
-use Rattle.vital_cell.proofs.ListLemmas.{zip-push}
-use Rattle.vital_execution.specs.Execution.{Executed, Process', Wire, all_executed, drivers_of}
-use Rattle.vital_machine.specs.declared.program.Process.{Process}
-use Rattle.vital_machine.specs.Fits.{IsProcess}
-use Rattle.vital_steps.specs.Scopes.{Scope}
-use Rattle.vital_typed_cells.specs.declared.process.CellProcess.{CellProcess}
-use Rattle.vital_typed_cells.specs.declared.typed_cell.TypedCell.{TypedCell}
-use Rattle.vital_typed_cells.specs.declared.wire.WireDelay.{WireDelay}
+-- Levels that are put to variables, by numbers and by names.
+use Rattle.std.proofs.Common.{◌≡◌, ℕ, ◌<◌, ◌==◌, ◌++◌, true, false, List, [], ◌∷◌, length, take, drop, set, suc, cond, get_or, refl, ◌∙◌, ap, arith}
+use Rattle.std.specs.Prelude.{Bool, nat_lt, replicate, unwrap_or, Some}
+use Rattle.std.specs.List.{IsDistinct}
+use Rattle.std.specs.Str.{bytes_eq}
+use Rattle.std.proofs.lemmas.Bool.{eqb-true, false≢true, lt-ltb, ltb-true}
+use Rattle.std.proofs.lemmas.List.{length-set, set_split}
+use Rattle.std.proofs.lemmas.List.FromFn.{length-map-range_with_len}
+use Rattle.vital_actuals.specs.declared.target.Target.{Target}
+use Rattle.vital_actuals.specs.declared.target.Target.TheVariants as target
+use Rattle.vital_execution.specs.Statements.{put as put_by_name}
+use Rattle.vital_execution.specs.Variables as variables
+use Rattle.vital_logic.specs.declared.level.Level.{Level}
+use Rattle.vital_logic.specs.declared.level.Level.TheVariants.{U}
+use Rattle.vital_machine.specs.declared.slot.Slot.{Slot}
+use Rattle.vital_machine.specs.declared.slot.Slot.TheVariants as slot
+use Rattle.vital_machine.specs.declared.steps.Place.{Place}
+use Rattle.vital_machine.specs.declared.steps.Place.TheVariants as place
+use Rattle.vital_machine.specs.Fits.{kind_of, kinds_of}
+use Rattle.vital_machine.specs.Machine.{changed, put}
+use Rattle.vital_machine.specs.Slots.{with_element, with_level, with_levels}
+use Rattle.vital_machine.specs.TruthTables.{fitted}
+use Rattle.vital_machine.proofs.FitLemmas.{fitted-whole}
+use Rattle.vital_objects.specs.declared.variable.VariableKind.{VariableKind}
+use Rattle.vital_objects.specs.declared.variable.VariableKind.TheVariants as kind
+use Rattle.vital_primitives.specs.Operators.{first}
+use Rattle.vital_typed_cells.specs.Named.{has_element, is_scalar, is_vector}
+use Rattle.vital_typed_cells.specs.SoundActuals.{is_sound_target}
+use Rattle.vital_cell.specs.Kinds.{AreOfKinds, is_of_kind}
+use Rattle.vital_cell.specs.Named.{held_in, named}
+use Rattle.vital_cell.specs.Scopes.{Scope, names_of_variables, variable_of}
+use Rattle.vital_cell.specs.Sound.{tests}
+use Rattle.vital_cell.specs.Steps.{place_of}
+use Rattle.vital_cell.proofs.ChangeLemmas.{kinds-changed, named-changed}
+use Rattle.vital_cell.proofs.KindLemmas.{found-variable}
+use Rattle.vital_typed_cells.specs.Bits.{number_of}
 
-drivers-push : (n : ℕ) (xs : List Executed) (x : Executed) → with_drivers n (xs ++ x ∷ []) ≡ with_drivers n xs ++ (n + sum_by drivers_of xs, x) ∷ []
-drivers-push n [] x =
-    let same : n ≡ n + 0 = omega arith in
-    ap (λ m. (m, x) ∷ []) same
-drivers-push n (y ∷ ys) x =
-    let same : (n + drivers_of y) + sum_by drivers_of ys ≡ n + sum_by drivers_of (y ∷ ys) = omega (arith, sum_by-cons drivers_of y ys) in
-    ap (λ zs. (n, y) ∷ zs) (drivers-push (n + drivers_of y) ys x ∙ ap (λ m. with_drivers (n + drivers_of y) ys ++ (m, x) ∷ []) same)
+-- ---- one level
 
-pub put-one : (k : Scope) (x : Executed) (old new : Processes) (driver : ℕ) (made : Process) → driver ≡ old.drivers → IsMade k (driver, x) made → IsProcess made
-    → new.processes.items ≡ old.processes.items ++ made ∷ [] → new.drivers ≡ old.drivers + drivers_of x → IsPut k x old new
-put-one k x old new driver made first is short put more = λ before are.
-    let number : driver ≡ 0 + sum_by drivers_of before = first ∙ are.drivers ∙ omega arith in
-    let M : ℕ → Type 0 = λ d. IsMade k (d, x) made in
-    let P : List Process → Type 0 = λ ps. AllZip (IsMade k) (with_drivers 0 (before ++ x ∷ [])) ps in
-    let Q : List (ℕ × Executed) → Type 0 = λ xs. AllZip (IsMade k) xs (old.processes.items ++ made ∷ []) in
-    let R : List Process → Type 0 = λ ps. All IsProcess ps in
-    record {
-      each = subst P (sym put) (subst Q (sym (drivers-push 0 before x)) (zip-push (IsMade k) (with_drivers 0 before) old.processes.items (0 + sum_by drivers_of before, x) made are.each (subst M number is)));
-      drivers = more ∙ ap (λ n. n + drivers_of x) are.drivers ∙ sym (sum_by_push drivers_of before x);
-      are = subst R (sym put) (All-push IsProcess old.processes.items made are.are short);
-    }
+pub level-put : (k : VariableKind) (held : Slot) (l : Level) → is_scalar k ≡ true → is_of_kind k held ≡ true → held_in (with_level l held) ≡ variables.given (l ∷ []) (held_in held)
+level-put (kind.Level d) (slot.Level old) l passes suits = refl
+level-put (kind.Level d) held l passes suits = absurd (false≢true suits)
+level-put (kind.X01 d) (slot.X01 old) l passes suits = refl
+level-put (kind.X01 d) held l passes suits = absurd (false≢true suits)
+level-put (kind.Vector n d) held l passes suits = absurd (false≢true passes)
+level-put kind.GlitchData held l passes suits = absurd (false≢true passes)
+level-put kind.TimingData held l passes suits = absurd (false≢true passes)
+level-put kind.PeriodData held l passes suits = absurd (false≢true passes)
 
-pub put-none : (k : Scope) (made : Processes) → ArePut k [] made made
-put-none k made = λ before are. let P : List Executed → Type 0 = λ xs. AreMade k xs made in subst P (sym (append-nil before)) are
+pub level-kept : (l : Level) (held : Slot) → kind_of (with_level l held) ≡ kind_of held
+level-kept l (slot.Level old) = refl
+level-kept l (slot.X01 old) = refl
+level-kept l (slot.Vector ls) = refl
+level-kept l (slot.Glitch kept) = refl
+level-kept l (slot.SetupHold check) = refl
+level-kept l (slot.RecRem check) = refl
+level-kept l (slot.PeriodPulse check) = refl
 
-map-take : {A B : Type 0} (see : A → B) (xs : List A) (i : ℕ) (x : A) → i < length xs → x ≡ get_or xs i x → map see (take (i + 1) xs) ≡ map see (take i xs) ++ see x ∷ []
-map-take see xs i x within is =
-    ap (map see) (take_more xs i x within ∙ ap (λ y. take i xs ++ y ∷ []) (sym is)) ∙ map-append see (take i xs) (x ∷ [])
+-- ---- an element
 
-pub put-turn : {A : Type 0} (k : Scope) (see : A → Executed) (xs : List A) (i : ℕ) (x : A) (first old new : Processes) → i < length xs → x ≡ get_or xs i x → ArePut k (map see (take i xs)) first old → IsPut k (see x) old new
-    → ArePut k (map see (take (i + 1) xs)) first new
-put-turn k see xs i x first old new within is so-far put = λ before are.
-    let done = map see (take i xs) in
-    let P : List Executed → Type 0 = λ ys. AreMade k ys new in
-    subst P (append_assoc before done (see x ∷ []) ∙ ap (λ ys. before ++ ys) (sym (map-take see xs i x within is))) (put (before ++ done) (so-far before are))
+stored : (ls : List Level) (i n : ℕ) (l : Level) → nat_lt i n ≡ true → (n == length ls) ≡ true → cond (nat_lt i (length ls)) (set ls i l) ls ≡ take i ls ++ l ∷ drop (suc i) ls
+stored ls i n l passes suits =
+    let below : i < length ls = omega (arith, ltb-true i n passes, eqb-true n (length ls) suits) in
+    ap (λ b. cond b (set ls i l) ls) (lt-ltb i (length ls) below) ∙ set_split ls i l below
 
--- Before the first one.
-pub none-made : (k : Scope) (made : Processes) → made.processes.items ≡ [] → made.drivers ≡ 0 → AreMade k [] made
-none-made k made none drivers =
-    let P : List Process → Type 0 = λ ps. AllZip (IsMade k) [] ps in
-    let Q : List Process → Type 0 = λ ps. All IsProcess ps in
-    record { each = subst P (sym none) tt; drivers = drivers; are = subst Q (sym none) (All-nil IsProcess) }
+element-put : (k : VariableKind) (held : Slot) (i : ℕ) (l : Level) → has_element i k ≡ true → is_of_kind k held ≡ true → held_in (with_element i l held) ≡ variables.given_element i l (held_in held)
+element-put (kind.Vector n d) (slot.Vector ls) i l passes suits = ap variables.Levels (stored ls i n l passes suits)
+element-put (kind.Vector n d) held i l passes suits = absurd (false≢true suits)
+element-put (kind.Level d) held i l passes suits = absurd (false≢true passes)
+element-put (kind.X01 d) held i l passes suits = absurd (false≢true passes)
+element-put kind.GlitchData held i l passes suits = absurd (false≢true passes)
+element-put kind.TimingData held i l passes suits = absurd (false≢true passes)
+element-put kind.PeriodData held i l passes suits = absurd (false≢true passes)
 
--- All that is behind a number of elements.
-behind : {A : Type 0} (n : ℕ) (xs : List A) → take (length xs - n) (drop n xs) ≡ drop n xs
-behind n xs = take_all (length xs - n) (drop n xs) (omega (arith, length-drop n xs))
+as-long : (b : Bool) (i : ℕ) (l : Level) (ls : List Level) → length (cond b (set ls i l) ls) ≡ length ls
+as-long true i l ls = length-set ls i l
+as-long false i l ls = refl
 
--- What a cell executes: the wire delays stand among the processes.
-pub all-made : (k : Scope) (c : TypedCell) (processes : List CellProcess) (wires : List WireDelay) (none before joined all : Processes) → processes ≡ c.processes → wires ≡ c.wires → none.processes.items ≡ [] → none.drivers ≡ 0
-    → ArePut k (map (λ p. Process' p) (take c.processes_before_wires processes)) none before → ArePut k (map (λ w. Wire w) wires) before joined
-    → ArePut k (map (λ p. Process' p) (take (length processes - c.processes_before_wires) (drop c.processes_before_wires processes))) joined all → AreMade k (all_executed c) all
-all-made k c processes wires none before joined all processes-are wires-are no-process no-driver first second third =
-    let n = c.processes_before_wires in
-    let here = map (λ p. Process' p) (take n processes) in
-    let R : List CellProcess → Type 0 = λ ps. ArePut k (map (λ p. Process' p) ps) joined all in
-    let P : List CellProcess → Type 0 = λ ps. AreMade k (map (λ p. Process' p) (take n ps) ++ map (λ w. Wire w) wires ++ map (λ p. Process' p) (drop n ps)) all in
-    let Q : List WireDelay → Type 0 = λ ws. AreMade k (map (λ p. Process' p) (take n c.processes) ++ map (λ w. Wire w) ws ++ map (λ p. Process' p) (drop n c.processes)) all in
-    subst Q wires-are (subst P processes-are (subst R (behind n processes) third (here ++ map (λ w. Wire w) wires) (second here (first [] (none-made k none no-process no-driver)))))
+vector-alike : (ls ms : List Level) → length ls ≡ length ms → kind_of (slot.Vector ls) ≡ kind_of (slot.Vector ms)
+vector-alike ls ms e = ap (λ n. slot.Vector (replicate n U)) e
+
+element-kept : (i : ℕ) (l : Level) (held : Slot) → kind_of (with_element i l held) ≡ kind_of held
+element-kept i l (slot.Level old) = refl
+element-kept i l (slot.X01 old) = refl
+element-kept i l (slot.Vector ls) = vector-alike (cond (nat_lt i (length ls)) (set ls i l) ls) ls (as-long (nat_lt i (length ls)) i l ls)
+element-kept i l (slot.Glitch kept) = refl
+element-kept i l (slot.SetupHold check) = refl
+element-kept i l (slot.RecRem check) = refl
+element-kept i l (slot.PeriodPulse check) = refl
+
+-- ---- a vector
+
+pub vector-put : (k : VariableKind) (held : Slot) (n : ℕ) (ls : List Level) → length ls ≡ n → is_vector n k ≡ true → is_of_kind k held ≡ true → held_in (with_levels ls held) ≡ variables.given ls (held_in held)
+vector-put (kind.Vector m d) (slot.Vector old) n ls long passes suits =
+    ap variables.Levels (fitted-whole (length old) ls (long ∙ eqb-true n m passes ∙ eqb-true m (length old) suits))
+vector-put (kind.Vector m d) held n ls long passes suits = absurd (false≢true suits)
+vector-put (kind.Level d) held n ls long passes suits = absurd (false≢true passes)
+vector-put (kind.X01 d) held n ls long passes suits = absurd (false≢true passes)
+vector-put kind.GlitchData held n ls long passes suits = absurd (false≢true passes)
+vector-put kind.TimingData held n ls long passes suits = absurd (false≢true passes)
+vector-put kind.PeriodData held n ls long passes suits = absurd (false≢true passes)
+
+pub levels-kept : (ls : List Level) (held : Slot) → kind_of (with_levels ls held) ≡ kind_of held
+levels-kept ls (slot.Level old) = refl
+levels-kept ls (slot.X01 old) = refl
+levels-kept ls (slot.Vector old) = vector-alike (fitted (length old) ls) old (length-map-range_with_len (λ i. get_or ls i U) 0 (length old))
+levels-kept ls (slot.Glitch kept) = refl
+levels-kept ls (slot.SetupHold check) = refl
+levels-kept ls (slot.RecRem check) = refl
+levels-kept ls (slot.PeriodPulse check) = refl
+
+-- ---- targets
+
+pub numbered-by : (k : Scope) (name : List ℕ) (i : ℕ) (f : Slot → Slot) (slots : List Slot) → number_of (names_of_variables k) name ≡ Some i → changed (variable_of k name) f slots ≡ changed i f slots
+numbered-by k name i f slots is = ap (λ o. changed (unwrap_or o 0) f slots) is
+
+-- So many levels as a target has.
+abbrev pub IsAsLong : Target → List Level → Type 0
+IsAsLong (target.Vector name n) ls = length ls ≡ n
+IsAsLong other ls = Unit {0}
+
+pub target-put : (k : Scope) (t : Target) (ls : List Level) (slots : List Slot) → IsDistinct bytes_eq (names_of_variables k) → AreOfKinds k.variables slots → is_sound_target (tests k) t ≡ true → IsAsLong t ls → named (names_of_variables k) (put (place_of k t) ls slots) ≡ put_by_name t ls (named (names_of_variables k) slots)
+target-put k (target.Level name) ls slots distinct are is long =
+    let f = found-variable is_scalar k.variables slots name distinct are is in
+    ap (named (names_of_variables k)) (numbered-by k name f.number (with_level (first ls)) slots f.numbered)
+    ∙ named-changed (names_of_variables k) slots name f.number f.held (with_level (first ls)) (variables.given (first ls ∷ [])) distinct f.numbered f.there (level-put f.kind f.held (first ls) f.passes f.suits)
+target-put k (target.Element name n) ls slots distinct are is long =
+    let f = found-variable (has_element n) k.variables slots name distinct are is in
+    ap (named (names_of_variables k)) (numbered-by k name f.number (with_element n (first ls)) slots f.numbered)
+    ∙ named-changed (names_of_variables k) slots name f.number f.held (with_element n (first ls)) (variables.given_element n (first ls)) distinct f.numbered f.there (element-put f.kind f.held n (first ls) f.passes f.suits)
+target-put k (target.Vector name n) ls slots distinct are is long =
+    let f = found-variable (is_vector n) k.variables slots name distinct are is in
+    ap (named (names_of_variables k)) (numbered-by k name f.number (with_levels ls) slots f.numbered)
+    ∙ named-changed (names_of_variables k) slots name f.number f.held (with_levels ls) (variables.given ls) distinct f.numbered f.there (vector-put f.kind f.held n ls long f.passes f.suits)
+
+pub put-kept : (p : Place) (ls : List Level) (slots : List Slot) → kinds_of (put p ls slots) ≡ kinds_of slots
+put-kept (place.Level i) ls slots = kinds-changed (with_level (first ls)) (level-kept (first ls)) i slots
+put-kept (place.Element i n) ls slots = kinds-changed (with_element n (first ls)) (element-kept n (first ls)) i slots
+put-kept (place.Vector i) ls slots = kinds-changed (with_levels ls) (levels-kept ls) i slots

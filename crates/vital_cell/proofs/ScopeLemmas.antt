@@ -6,18 +6,18 @@ use Rattle.std.proofs.lemmas.List.{length-map, length-take-le}
 use Rattle.vital_cell.specs.Compiled.{AreKnown, values_in}
 use Rattle.vital_cell.specs.declared.known.KnownNames.{KnownNames}
 use Rattle.vital_cell.proofs.ConstantLemmas.{IsWorthOf}
-use Rattle.vital_cell.proofs.ValueLemmas.{cell-worths}
-use Rattle.vital_checked.specs.Fits.{FitsCell, IsDelayOf}
+use Rattle.vital_cell.proofs.CellValueLemmas.{cell-worths}
+use Rattle.vital_typed_cells.specs.Fits.{FitsCell, IsDelayOf}
 use Rattle.vital_execution.specs.Environments.{NamedDelay, NamedWorth, cell_constants, control_of}
 use Rattle.vital_objects.specs.declared.constant.Constant.{Constant}
 use Rattle.vital_objects.specs.declared.generic.PlainGeneric.{PlainGeneric}
 use Rattle.vital_objects.specs.declared.generic.TimingGeneric.{TimingGeneric}
 use Rattle.vital_objects.specs.declared.variable.Variable.{Variable}
 use Rattle.vital_operands.specs.declared.tree.Control.{Control}
-use Rattle.vital_steps.specs.declared.worth.Worth.{Worth as Worth'}
-use Rattle.vital_steps.specs.Scopes.{Scope, named_delays, named_worths, package_worths}
-use Rattle.vital_steps.specs.Values.{scope_of_cell, with_constants, worths_in}
-use Rattle.vital_steps.specs.Worths as worths
+use Rattle.vital_cell.specs.declared.worth.Worth.{Worth as Worth'}
+use Rattle.vital_cell.specs.Scopes.{Scope, named_delays, named_worths, package_worths}
+use Rattle.vital_cell.specs.Values.{scope_of_cell, with_constants, worths_in}
+use Rattle.vital_cell.specs.Worths as worths
 use Rattle.vital_timing.specs.declared.delay.Delay.{Delay}
 use Rattle.vital_typed_cells.specs.Bits.{names_of}
 use Rattle.vital_typed_cells.specs.declared.process.CellProcess.{CellProcess}

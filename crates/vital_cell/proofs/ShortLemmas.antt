@@ -6,12 +6,12 @@ use Rattle.std.specs.Option.{option_map, option_map_or}
 use Rattle.std.specs.Str.{bytes_eq}
 use Rattle.std.proofs.lemmas.Bool.Decides.{nat_tests}
 use Rattle.std.proofs.lemmas.List.Elements.{recursion_from_All}
-use Rattle.vital_cell.proofs.ListLemmas.{all-behind}
+use Rattle.vital_cell.proofs.CellListLemmas.{all-behind}
 use Rattle.vital_cell.proofs.SoundLemmas.{first-holds, second-holds}
-use Rattle.vital_cell.proofs.ValueLemmas.{cell-sound-in, process-sound-in}
+use Rattle.vital_cell.proofs.CellValueLemmas.{cell-sound-in, process-sound-in}
 use Rattle.vital_cell.specs.Compiled.{values_in}
 use Rattle.vital_cell.specs.Short.{AreShortDelays, AreShortWorths, HasShort, IsShortIfAny, IsShortWorth}
-use Rattle.vital_checked.specs.Fits.{FitsCell, IsDelayOf}
+use Rattle.vital_typed_cells.specs.Fits.{FitsCell, IsDelayOf}
 use Rattle.vital_execution.specs.Environments.{NamedDelay, NamedWorth, cell_constants, constant_of, delay_named, delays_of}
 use Rattle.vital_execution.specs.Times.{delay_of as delay_in}
 use Rattle.vital_objects.specs.declared.constant.Constant.{Constant}
@@ -32,10 +32,10 @@ use Rattle.vital_typed_cells.specs.Sound.{IsSound, IsSoundProcess}
 use Rattle.vital_typed_cells.specs.SoundDeclarations.{AreSoundPackages, is_sound_constant, is_sound_package, names_in_packages}
 use Rattle.vital_typed_cells.specs.Times.{are_short, is_short}
 use Rattle.vital_typed_cells.specs.Trees.{is_sound_delay}
-use Rattle.vital_steps.specs.Scopes.{Scope}
-use Rattle.vital_steps.specs.Sound.{tests}
-use Rattle.vital_steps.specs.Steps.{delay_of}
-use Rattle.vital_steps.specs.Values.{AreSoundIn, named_worth, scope_of_cell, with_constants, worth_in, worths_in}
+use Rattle.vital_cell.specs.Scopes.{Scope}
+use Rattle.vital_cell.specs.Sound.{tests}
+use Rattle.vital_cell.specs.Steps.{delay_of}
+use Rattle.vital_cell.specs.Values.{AreSoundIn, named_worth, scope_of_cell, with_constants, worth_in, worths_in}
 use Rattle.vital_timing.specs.declared.delay.Delay.{Delay}
 use Rattle.vital_timing.specs.declared.delay.Delay.TheVariants as delay
 use Rattle.vital_timing.specs.declared.delay.DelayType.{DelayType}

@@ -7,7 +7,7 @@ use Rattle.std.proofs.lemmas.List.FromFn.{length-enumerate_from}
 use Rattle.vital_actuals.specs.declared.actual.Path.{Path}
 use Rattle.vital_cell.specs.Compiled.{HasSteps, IsMadeProcess, IsMadeWire, IsSoundIn, with_variables}
 use Rattle.vital_cell.specs.Short.{HasShort}
-use Rattle.vital_cell.proofs.ProcessLemmas.{begins}
+use Rattle.vital_cell.proofs.CellProcessLemmas.{begins}
 use Rattle.vital_cell.proofs.ScopeLemmas.{as-long}
 use Rattle.vital_cell.proofs.ShortLemmas.{delay-short, generic-within, short-within}
 use Rattle.vital_cell.proofs.SoundLemmas.{first-holds, second-holds}
@@ -24,10 +24,10 @@ use Rattle.vital_typed_cells.specs.SoundActuals.{is_sound_path}
 use Rattle.vital_typed_cells.specs.SoundSections.{are_sound_sections, is_sound_functional}
 use Rattle.vital_typed_cells.specs.SoundStatements.{is_sound_check, is_sound_path_delay}
 use Rattle.vital_typed_cells.specs.Trees.{is_sound_boolean, is_sound_delay, is_sound_level}
-use Rattle.vital_steps.specs.Laws.{SlotsBegin}
-use Rattle.vital_steps.specs.Scopes.{Scope}
-use Rattle.vital_steps.specs.Sound.{has_state_table, statement_tests, tests}
-use Rattle.vital_steps.specs.Steps.{IsCheckStep, IsDelayStep, IsPathStep, delay_of}
+use Rattle.vital_cell.specs.Laws.{SlotsBegin}
+use Rattle.vital_cell.specs.Scopes.{Scope}
+use Rattle.vital_cell.specs.Sound.{has_state_table, statement_tests, tests}
+use Rattle.vital_cell.specs.Steps.{IsCheckStep, IsDelayStep, IsPathStep, delay_of}
 use Rattle.vital_timing.specs.declared.delay.Delay.{Delay}
 use Rattle.vital_timing.specs.declared.delay.DelayType.{DelayType}
 use Rattle.vital_typed_cells.specs.declared.process.CellProcess.{CellProcess}

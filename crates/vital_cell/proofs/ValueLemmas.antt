@@ -1,133 +1,107 @@
--- Constants and defaults of a sound cell are sound where numbered trees are made of them.
-use Rattle.std.proofs.Common.{◌≡◌, ℕ, true, List, [], ◌∷◌, ◌++◌, map, refl, sym, ◌∙◌, ap, subst, append-nil, append_assoc, arith}
-use Rattle.std.specs.Prelude.{◌&&◌}
-use Rattle.std.specs.List.{AllByRecursion, AllZip, IsDistinct, list_all}
-use Rattle.std.specs.Str.{bytes_eq}
+-- Values in which nothing is named but constants and generics.
+use Rattle.std.proofs.Common.{◌≡◌, ℕ, zero, suc, ◌+◌, ◌<◌, true, List, [], ◌∷◌, ◌++◌, length, map, take, drop, get_or, refl, sym, ◌∙◌, ap, subst, arith}
+use Rattle.std.specs.Prelude.{slice_get, Some}
+use Rattle.std.specs.List.{zip}
 use Rattle.std.proofs.lemmas.Bool.{false≢true}
-use Rattle.std.proofs.lemmas.List.{map-append}
-use Rattle.std.proofs.lemmas.List.Elements.{recursion_from_All}
-use Rattle.vital_cell.proofs.ConstantLemmas.{IsWorthOf, Knows, truth-tabled, worth-of, worths-behind}
-use Rattle.vital_cell.proofs.ListLemmas.{zip-push}
-use Rattle.vital_cell.proofs.WiderLemmas.{IsWider, constant-wider, kind-wider}
-use Rattle.vital_execution.specs.Environments.{NamedWorth, cell_constants, process_constants}
+use Rattle.std.proofs.lemmas.List.{take_more}
+use Rattle.std.proofs.lemmas.List.Sums.{fold-append}
+use Rattle.std.proofs.lemmas.Option.{slice_get-get_or}
+use Rattle.vital_execution.specs.Environments.{NamedWorth}
+use Rattle.vital_machine.specs.declared.trees.LevelTree.{LevelTree}
+use Rattle.vital_machine.specs.declared.trees.TruthTree.{TruthTree}
+use Rattle.vital_machine.specs.declared.trees.VectorTree.{VectorTree}
+use Rattle.vital_machine.specs.Seen.{Seen}
+use Rattle.vital_machine.specs.Trees as N
 use Rattle.vital_objects.specs.declared.constant.Constant.{Constant}
-use Rattle.vital_objects.specs.declared.variable.Variable.{Variable}
-use Rattle.vital_typed_cells.specs.Sound.{IsSound, IsSoundProcess, names_in_process}
-use Rattle.vital_typed_cells.specs.SoundDeclarations.{AreSoundConstants, is_sound_kind, names_in_values}
-use Rattle.vital_typed_cells.specs.TreeNames.{names_of_cell, names_of_process}
-use Rattle.vital_typed_cells.proofs.Parts.{distinct-part, times-append}
-use Rattle.vital_steps.specs.Scopes.{Scope}
-use Rattle.vital_steps.specs.Sound.{tests}
-use Rattle.vital_steps.specs.Values.{AreSoundIn, named_worth, scope_of_cell, with_constants}
-use Rattle.vital_timing.specs.declared.delay.Delay.{Delay}
-use Rattle.vital_typed_cells.specs.declared.process.CellProcess.{CellProcess}
-use Rattle.vital_typed_cells.specs.declared.typed_cell.TypedCell.{TypedCell}
-use Rattle.vital_worths.specs.Packages.{packages_worth}
+use Rattle.vital_objects.specs.declared.constant.ConstantValue.{ConstantValue}
+use Rattle.vital_objects.specs.declared.constant.ConstantValue.TheVariants as constants
+use Rattle.vital_operands.specs.declared.tree.BooleanExpr.{BooleanExpr}
+use Rattle.vital_operands.specs.declared.tree.LevelExpr.{LevelExpr}
+use Rattle.vital_operands.specs.declared.tree.VectorExpr.{VectorExpr}
+use Rattle.vital_typed_cells.specs.ExprScopes.{Scope as Tests}
+use Rattle.vital_typed_cells.specs.Named.{is_vector, variable_is}
+use Rattle.vital_typed_cells.specs.SoundDeclarations.{is_sound_constant}
+use Rattle.vital_typed_cells.specs.Trees.{is_sound_boolean, is_sound_level}
+use Rattle.vital_cell.specs.declared.worth.Worth.{Worth}
+use Rattle.vital_cell.specs.Named.{held_in}
+use Rattle.vital_cell.specs.Scopes.{Scope, named_worths, names_at, names_of, names_of_variables}
+use Rattle.vital_cell.specs.Sound.{tests}
+use Rattle.vital_cell.specs.StandsFor.{Fits, IsLevel, IsTruth, IsVector}
+use Rattle.vital_cell.specs.Values.{AreSoundIn, named_worth, with_constants, worths_in}
+use Rattle.vital_cell.specs.Worths as worths
+use Rattle.vital_cell.proofs.ZipLemmas.{map-at, none≢some, some-same}
+use Rattle.vital_worths.specs.Expressions as T
 
--- ---- names that differ
+-- ---- nothing is seen
 
-abbrev pub names : List Constant → List (List ℕ)
-names ks = map (λ k. k.name) ks
+abbrev pub nothing : Seen
+nothing = record { inputs = []; slots = [] }
 
-pub distinct-front : (xs ys : List (List ℕ)) → IsDistinct bytes_eq (xs ++ ys) → IsDistinct bytes_eq xs
-distinct-front xs ys apart = distinct-part xs (xs ++ ys) (record { at_most = λ n. omega (arith, times-append n xs ys) }) apart
+zip-none : {A B : Type 0} (xs : List A) → zip {K = A} {X = B} xs [] ≡ []
+zip-none [] = refl
+zip-none (x ∷ xs) = refl
 
-front-differs : (known ks : List Constant) → IsDistinct bytes_eq (names (known ++ ks)) → IsDistinct bytes_eq (names known)
-front-differs known ks apart =
-    let P : List (List ℕ) → Type 0 = λ ns. IsDistinct bytes_eq ns in
-    distinct-front (names known) (names ks) (subst P (map-append (λ k. k.name) known ks) apart)
+names-none : (k : Scope) → names_of k nothing ≡ names_at k [] []
+names-none k = ap (λ ps. names_at k [] (map (λ p. record { name = p.0; held = held_in p.1 }) ps)) (zip-none (names_of_variables k))
 
--- The constants of a cell, and those of one of its processes behind them.
-pub cell-constants-differ : (c : TypedCell) → IsDistinct bytes_eq (names_of_cell c) → IsDistinct bytes_eq (names c.constants)
-cell-constants-differ c apart =
-    let before = map (λ p. p.name) c.ports ++ map (λ g. g.name) c.generics ++ map (λ g. g.name) c.plain_generics ++ map (λ s. s.name) c.signals in
-    distinct-part (names c.constants) (names_of_cell c) (record { at_most = λ n. omega (arith, times-append n before (names c.constants)) }) apart
+fits-none : (k : Scope) → k.variables ≡ [] → Fits k nothing
+fits-none k none = λ name n is. absurd (false≢true (sym (ap (λ vs. variable_is (is_vector n) vs name) none) ∙ is))
 
-pub constants-differ : (c : TypedCell) (p : CellProcess) → IsDistinct bytes_eq (names_of_process p ++ names_of_cell c) → IsDistinct bytes_eq (names (c.constants ++ p.constants))
-constants-differ c p apart =
-    let before = map (λ q. q.name) c.ports ++ map (λ g. g.name) c.generics ++ map (λ g. g.name) c.plain_generics ++ map (λ s. s.name) c.signals in
-    let own = names p.constants in
-    let variables = map (λ (v : Variable). v.name) p.variables in
-    let cell = names c.constants in
-    let P : List (List ℕ) → Type 0 = λ ns. IsDistinct bytes_eq ns in
-    subst P (sym (map-append (λ k. k.name) c.constants p.constants))
-    (distinct-part (cell ++ own) (names_of_process p ++ names_of_cell c)
-    (record { at_most = λ n. omega (arith, times-append n cell own, times-append n (names_of_process p) (names_of_cell c), times-append n own variables, times-append n before cell) })
-    apart)
+pub level-known : (k : Scope) (x : LevelTree) (e : LevelExpr) → k.variables ≡ [] → IsLevel k x e → N.level nothing x ≡ T.level (names_at k [] []) e
+level-known k x e none is = is nothing (fits-none k none) ∙ ap (λ names. T.level names e) (names-none k)
 
--- The variables of a process.
-pub variables-differ : (c : TypedCell) (p : CellProcess) → IsDistinct bytes_eq (names_of_process p ++ names_of_cell c) → IsDistinct bytes_eq (map (λ v. v.name) p.variables)
-variables-differ c p apart =
-    let own = names p.constants in
-    let variables = map (λ (v : Variable). v.name) p.variables in
-    distinct-part variables (names_of_process p ++ names_of_cell c)
-    (record { at_most = λ n. omega (arith, times-append n (names_of_process p) (names_of_cell c), times-append n own variables) }) apart
+pub truth-known : (k : Scope) (x : TruthTree) (e : BooleanExpr) → k.variables ≡ [] → IsTruth k x e → N.truth nothing x ≡ T.truth (names_at k [] []) e
+truth-known k x e none is = is nothing (fits-none k none) ∙ ap (λ names. T.truth names e) (names-none k)
 
--- ---- scopes of values
+pub vector-known : (k : Scope) (x : VectorTree) (e : VectorExpr) → k.variables ≡ [] → IsVector k x e → N.vector nothing x ≡ T.vector (names_at k [] []) e
+vector-known k x e none is = is nothing (fits-none k none) ∙ ap (λ names. T.vector names e) (names-none k)
 
-pub values-wider : (c : TypedCell) (first others : List Constant) (s : Scope) → Knows c.packages (first ++ others) s → IsWider (names_in_values c (others ++ first)) (tests s)
-values-wider c first others s knows = record {
-  signals = λ name is. absurd (false≢true is);
-  variables = λ name is. absurd (false≢true is);
-  elements = λ name n is. absurd (false≢true is);
-  vectors = λ name n is. absurd (false≢true is);
-  levels = λ name is. refl;
-  times = λ name is. refl;
-  delays = λ d name is. refl;
-  generics = λ d name is. refl;
-  tables = truth-tabled c.packages first others s knows;
-}
+-- ---- one constant more
 
--- ---- constants, each of which names only those before it
+pub worths-more : (names : List (List ℕ)) (ws : List Worth) (name : List ℕ) (w : Worth) → slice_get names (length ws) ≡ Some name → named_worths names (ws ++ w ∷ []) ≡ named_worths names ws ++ record { name = name; worth = worths.lent w } ∷ []
+worths-more [] ws name w is = absurd (none≢some name is)
+worths-more (n ∷ ns) [] name w is =
+    ap (λ (xs : List NamedWorth). record { name = n; worth = worths.lent w } ∷ xs) (ap (map (λ p. record { name = p.0; worth = worths.lent p.1 })) (zip-none ns))
+    ∙ ap (λ m. record { name = m; worth = worths.lent w } ∷ []) (some-same n name is)
+worths-more (n ∷ ns) (v ∷ vs) name w is = ap (λ (xs : List NamedWorth). record { name = n; worth = worths.lent v } ∷ xs) (worths-more ns vs name w is)
 
-pub sound-in : (c : TypedCell) (s : Scope) (first others ks : List Constant) (ns : List NamedWorth) → s.packages ≡ packages_worth c.packages → AllZip IsWorthOf (first ++ others) ns → IsDistinct bytes_eq (names ((first ++ others) ++ ks))
-    → AreSoundConstants c first others ks → AreSoundIn s ns ks
-sound-in c s first others [] ns packages are apart sound = tt
-sound-in c s first others (k ∷ ks) ns packages are apart sound =
-    let here = with_constants s ns in
-    let knows : Knows c.packages (first ++ others) here = record { packages = packages; worths = are; distinct = front-differs (first ++ others) (k ∷ ks) apart } in
-    let more = ns ++ named_worth here k ∷ [] in
-    let P : List Constant → Type 0 = λ xs. AllZip IsWorthOf xs more in
-    let Q : List Constant → Type 0 = λ xs. IsDistinct bytes_eq (names xs) in (
-      constant-wider (names_in_values c (others ++ first)) (tests here) (values-wider c first others here knows) k.value sound.0,
-      sound-in c s first (others ++ k ∷ []) ks more packages
-          (subst P (append_assoc first others (k ∷ [])) (zip-push IsWorthOf (first ++ others) ns k (named_worth here k) are (worth-of here k)))
-          (subst Q (sym (append_assoc (first ++ others) (k ∷ []) ks) ∙ ap (λ xs. xs ++ ks) (append_assoc first others (k ∷ []))) apart)
-          sound.1,
-    )
+-- ---- constants, one after the other
 
-pub cell-sound-in : (c : TypedCell) (s : Scope) → IsSound c → s.packages ≡ packages_worth c.packages → AreSoundIn s [] c.constants
-cell-sound-in c s sound packages = sound-in c s [] [] c.constants [] packages tt (cell-constants-differ c sound.names_differ) sound.constants_typed
+pub worths-turn : (k : Scope) (known : List NamedWorth) (cs : List Constant) (i : ℕ) (c : Constant) → i < length cs → c ≡ get_or cs i c → worths_in k known (take (i + 1) cs) ≡ worths_in k known (take i cs) ++ named_worth (with_constants k (worths_in k known (take i cs))) c ∷ []
+worths-turn k known cs i c within is =
+    ap (worths_in k known) (take_more cs i c within ∙ ap (λ y. take i cs ++ y ∷ []) (sym is))
+    ∙ fold-append (λ before d. before ++ named_worth (with_constants k before) d ∷ []) known (take i cs) (c ∷ [])
 
-pub cell-worths : (c : TypedCell) (values : List Delay) → AllZip IsWorthOf c.constants (cell_constants c values)
-cell-worths c values = worths-behind (scope_of_cell c values) [] [] c.constants tt
+-- The next constant is sound, and so are those behind it.
+pub record SoundTurn (k : Scope) (before : List NamedWorth) (cs : List Constant) (i : ℕ) (c : Constant) : Type 0 where
+  pub here : is_sound_constant (tests (with_constants k before)) c.value ≡ true
+  pub rest : AreSoundIn k (before ++ named_worth (with_constants k before) c ∷ []) (drop (i + 1) cs)
 
-pub process-sound-in : (c : TypedCell) (values : List Delay) (p : CellProcess) (s : Scope) → IsSoundProcess c p → s.packages ≡ packages_worth c.packages → AreSoundIn s (cell_constants c values) p.constants
-process-sound-in c values p s sound packages =
-    let P : List Constant → Type 0 = λ xs. AllZip IsWorthOf xs (cell_constants c values) in
-    let Q : List Constant → Type 0 = λ xs. IsDistinct bytes_eq (names (xs ++ p.constants)) in
-    sound-in c s c.constants [] p.constants (cell_constants c values) packages
-    (subst P (sym (append-nil c.constants)) (cell-worths c values))
-    (subst Q (sym (append-nil c.constants)) (constants-differ c p sound.names_differ))
-    sound.constants_typed
-
--- Where all constants of a process are known.
-pub process-knows : (c : TypedCell) (values : List Delay) (p : CellProcess) (s : Scope) → IsSoundProcess c p → s.packages ≡ packages_worth c.packages → s.constants ≡ process_constants c values p → Knows c.packages (c.constants ++ p.constants) s
-process-knows c values p s sound packages constants =
-    let P : List NamedWorth → Type 0 = λ ns. AllZip IsWorthOf (c.constants ++ p.constants) ns in
+pub sound-turn : (k : Scope) (before : List NamedWorth) (cs : List Constant) (i : ℕ) (c : Constant) → i < length cs → c ≡ get_or cs i c → AreSoundIn k before (drop i cs) → SoundTurn k before cs i c
+sound-turn k before [] i c within is sound = absurd (omega arith)
+sound-turn k before (d ∷ ds) zero c within is sound =
+    let P : Constant → Type 0 = λ y. AreSoundIn k (before ++ named_worth (with_constants k before) y ∷ []) ds in
     record {
-      packages = packages;
-      worths = subst P (sym constants) (worths-behind (scope_of_cell c values) (cell_constants c values) c.constants p.constants (cell-worths c values));
-      distinct = constants-differ c p sound.names_differ;
+      here = ap (λ y. is_sound_constant (tests (with_constants k before)) y.value) is ∙ sound.0;
+      rest = subst P (sym is) sound.1;
     }
+sound-turn k before (d ∷ ds) (suc i) c within is sound =
+    let turn = sound-turn k before ds i c (omega arith) is sound in
+    let same : suc i + 1 ≡ suc (i + 1) = omega arith in
+    let P : ℕ → Type 0 = λ m. AreSoundIn k (before ++ named_worth (with_constants k before) c ∷ []) (drop m (d ∷ ds)) in
+    record { here = turn.here; rest = subst P (sym same) turn.rest }
 
--- ---- defaults of variables
+-- ---- values of one kind
 
-kinds-by : (c : TypedCell) (p : CellProcess) (s : Scope) (vs : List Variable) → IsWider (names_in_process c p) (tests s) → AllByRecursion (λ v. is_sound_kind (names_in_process c p) v.kind ≡ true) vs → list_all (λ v. is_sound_kind (tests s) v.kind) vs ≡ true
-kinds-by c p s [] wider are = refl
-kinds-by c p s (v ∷ vs) wider are = ap (λ b. b && list_all (λ u. is_sound_kind (tests s) u.kind) vs) (kind-wider (names_in_process c p) (tests s) wider v.kind are.0) ∙ kinds-by c p s vs wider are.1
+pub constant-level : (s : Tests) (v : ConstantValue) (t : LevelExpr) → v ≡ constants.Level t → is_sound_constant s v ≡ true → is_sound_level s t ≡ true
+constant-level s v t is sound = sym (ap (is_sound_constant s) is) ∙ sound
 
-pub kinds-sound : (c : TypedCell) (values : List Delay) (p : CellProcess) (s : Scope) → IsSoundProcess c p → s.packages ≡ packages_worth c.packages → s.constants ≡ process_constants c values p → list_all (λ v. is_sound_kind (tests s) v.kind) p.variables ≡ true
-kinds-sound c values p s sound packages constants =
-    kinds-by c p s p.variables (values-wider c c.constants p.constants s (process-knows c values p s sound packages constants))
-    (recursion_from_All (λ v. is_sound_kind (names_in_process c p) v.kind ≡ true) p.variables sound.variables_typed)
+pub constant-boolean : (s : Tests) (v : ConstantValue) (t : BooleanExpr) → v ≡ constants.Boolean t → is_sound_constant s v ≡ true → is_sound_boolean s t ≡ true
+constant-boolean s v t is sound = sym (ap (is_sound_constant s) is) ∙ sound
+
+-- The name of the next constant.
+pub next-name : (names : List (List ℕ)) (cs : List Constant) (before now i : ℕ) (c : Constant) → i < length cs → c ≡ get_or cs i c → now ≡ before + i
+    → ((j : ℕ) (name : List ℕ) → slice_get (map (λ d. d.name) cs) j ≡ Some name → slice_get names (before + j) ≡ Some name)
+    → slice_get names now ≡ Some c.name
+next-name names cs before now i c within is long there =
+    ap (slice_get names) long ∙ there i c.name (map-at (λ d. d.name) cs i c (slice_get-get_or cs i c within ∙ ap Some (sym is)))

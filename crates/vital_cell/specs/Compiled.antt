@@ -6,7 +6,7 @@ use Rattle.vital_cell.specs.declared.known.KnownNames.{KnownNames}
 use Rattle.vital_cell.specs.declared.processes.Processes.{Processes}
 use Rattle.vital_cell.specs.Programs.{StandsFor}
 use Rattle.vital_cell.specs.Short.{HasShort}
-use Rattle.vital_checked.specs.Fits.{FitsCell}
+use Rattle.vital_typed_cells.specs.Fits.{FitsCell}
 use Rattle.vital_execution.specs.Environments.{delay_named}
 use Rattle.vital_execution.specs.Execution.{Executed, Process', Wire, all_executed, drivers_of}
 use Rattle.vital_machine.specs.declared.program.Process.{Process}
@@ -20,11 +20,11 @@ use Rattle.vital_typed_cells.specs.KeptStates.{kept_by}
 use Rattle.vital_typed_cells.specs.Sound.{IsSound, bit_count}
 use Rattle.vital_typed_cells.specs.SoundDeclarations.{is_sound_kind}
 use Rattle.vital_typed_cells.specs.SoundSections.{are_sound_sections}
-use Rattle.vital_steps.specs.declared.scope.Scope.{Scope as Scope'}
-use Rattle.vital_steps.specs.Scopes.{Scope, bit_of, lent, package_worths}
-use Rattle.vital_steps.specs.Sound.{has_state_table, statement_tests, tests}
-use Rattle.vital_steps.specs.Steps.{AreSteps}
-use Rattle.vital_steps.specs.Values.{AreFirst, scope_of_cell, with_constants, worths_in}
+use Rattle.vital_cell.specs.declared.scope.Scope.{Scope as Scope'}
+use Rattle.vital_cell.specs.Scopes.{Scope, bit_of, lent, package_worths}
+use Rattle.vital_cell.specs.Sound.{has_state_table, statement_tests, tests}
+use Rattle.vital_cell.specs.Steps.{AreSteps}
+use Rattle.vital_cell.specs.Values.{AreFirst, scope_of_cell, with_constants, worths_in}
 use Rattle.vital_timing.specs.declared.delay.Delay.{Delay}
 use Rattle.vital_typed_cells.specs.Bits.{names_of}
 use Rattle.vital_typed_cells.specs.declared.process.CellProcess.{CellProcess}

@@ -1,3 +1,13 @@
 pub mod Programs
 pub mod Short
 pub mod Compiled
+pub mod Named
+pub mod Worths
+pub mod Scopes
+pub mod Kinds
+pub mod Sound
+pub mod StandsFor
+pub mod Steps
+pub mod Values
+pub mod Formed
+pub mod Laws

@@ -1,7 +1,7 @@
 -- When a program stands for a cell with delays for its timing generics.
 use Rattle.std.specs.Prelude.{◌≡◌, ℕ, All, Bool, List, [], length, map}
 use Rattle.std.specs.List.{AllZip, enumerate_from, sum_by}
-use Rattle.vital_steps.specs.Named.{by_name, named}
+use Rattle.vital_cell.specs.Named.{by_name, named}
 use Rattle.vital_execution.specs.Environments.{control_of}
 use Rattle.vital_execution.specs.Execution as execution
 use Rattle.vital_execution.specs.Execution.{Executed, Process', Wire, all_executed, drivers_of, first_driver, start_of}

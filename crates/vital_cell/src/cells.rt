@@ -3,21 +3,21 @@
 ghost use Rattle.std.specs.Prelude.{◌≡◌, ◌^◌, ◌<◌, IfOk, length};
 ghost use Rattle.vital_cell.specs.Compiled.{AreMade, IsCompiled, IsOfCell};
 ghost use Rattle.vital_cell.specs.Programs as spec;
-ghost use Rattle.vital_checked.specs.Fits.{FitsCell};
+ghost use Rattle.vital_typed_cells.specs.Fits.{FitsCell};
 ghost use Rattle.vital_execution.specs.Execution.{all_executed};
 ghost use Rattle.vital_typed_cells.specs.Sound.{IsSound};
-ghost use Rattle.vital_steps.specs.Scopes.{lent};
+ghost use Rattle.vital_cell.specs.Scopes.{lent};
 
+use crate::cell_laws::compiled_stands;
+use crate::constants::put_worths;
 use crate::known::{control_truths, known_names};
-use crate::laws::compiled_stands;
 use crate::processes::{MOST_NUMBERED, Processes};
+use crate::scope::Scope;
 use sqlite_items::Items;
 use std::alloc::{AllocError, Global};
-use vital_checked::{Checked, Values};
 use vital_machine::Program;
-use vital_steps::{Scope, put_worths};
 use vital_timing::Delay;
-use vital_typed_cells::TypedCell;
+use vital_typed_cells::{Checked, TypedCell, Values};
 
 /// What a cell executes, in whose scope the constants of the architecture are known: the wire delays stand among the processes.
 fn all_processes<'a>(scope: &Scope<'_, 'a>, cell: &'a TypedCell) -> Result<Processes, AllocError>

@@ -5,14 +5,18 @@ ghost use Rattle.std.specs.Option.{option_map};
 ghost use Rattle.vital_cell.specs.Compiled.{AreKnown};
 ghost use Rattle.vital_execution.specs.Environments.{control_of, control_worth};
 ghost use Rattle.vital_typed_cells.specs.SoundDeclarations.{AreSoundPackages};
-ghost use Rattle.vital_steps.specs.Scopes as scopes;
-ghost use Rattle.vital_steps.specs.Worths as worths;
+ghost use Rattle.vital_cell.specs.Scopes as scopes;
+ghost use Rattle.vital_cell.specs.Worths as worths;
 ghost use Rattle.vital_typed_cells.specs.Bits.{names_of};
 ghost use Rattle.vital_worths.specs.Packages as package_worths';
 
+use crate::constants::package_worths;
+use crate::name_numbers::NameNumbers;
+use crate::scope::ControlTruths;
+use crate::variable_numbers::VariableNumbers;
+use crate::worth::{Worth, truth_of};
 use std::alloc::{AllocError, Global};
 use vital_objects::{Constant, ControlValue, Controls, PlainGeneric, Port, Signal, TimingGeneric};
-use vital_steps::{ControlTruths, NameNumbers, VariableNumbers, Worth, package_worths, truth_of};
 use vital_timing::Delay;
 use vital_typed_cells::TypedCell;
 

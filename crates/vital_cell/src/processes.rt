@@ -6,16 +6,20 @@ ghost use Rattle.vital_cell.specs.Short.{HasShort};
 ghost use Rattle.vital_execution.specs.Execution as execution;
 ghost use Rattle.vital_machine.specs.Fits.{IsProcess};
 ghost use Rattle.vital_typed_cells.specs.Sound.{IsSound, IsSoundProcess};
-ghost use Rattle.vital_steps.specs.Scopes.{lent};
+ghost use Rattle.vital_cell.specs.Scopes.{lent};
 
+use crate::constants::put_worths;
 use crate::known::put_names;
+use crate::laws::slots_begin;
+use crate::name_numbers::NameNumbers;
+use crate::numbered_steps::process_steps;
+use crate::scope::Scope;
+use crate::slots::first_slots;
+use crate::variable_numbers::VariableNumbers;
 use sqlite_items::Items;
 use std::alloc::{AllocError, Global};
 use vital_machine::{Executed, Process, WireStep};
 use vital_sections::Sections;
-use vital_steps::{
-    NameNumbers, Scope, VariableNumbers, first_slots, process_steps, put_worths, slots_begin,
-};
 use vital_typed_cells::{CellProcess, TypedCell, WireDelay};
 
 /// The most bits, drivers and effects of a process that are numbered.

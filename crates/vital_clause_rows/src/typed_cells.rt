@@ -9,12 +9,11 @@ use crate::limits::put_passed;
 use crate::printing::put_cell;
 use std::alloc::{AllocError, Global};
 use vital_base::Breach;
-use vital_checked::{CheckError, Checked, check_cell, default_values};
 use vital_level1::Packages;
 use vital_library::Library;
 use vital_names::LibraryNames;
 use vital_nodes::{Arch, Entity};
-use vital_typed_cells::TypedPackages;
+use vital_typed_cells::{CheckError, Checked, TypedPackages, check_cell, default_values};
 
 /// Puts a cell that meets Level 1, and what its timing generics begin with.
 fn put_checked(alloc: Global, text: &mut String, checked: &Checked) -> Result<(), AllocError> {

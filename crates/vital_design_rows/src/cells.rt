@@ -2,9 +2,9 @@
 
 use super::faults::put_bytes;
 use std::alloc::AllocError;
-use vital_checked::Checked;
 use vital_library::Library;
 use vital_netlist::Cells;
+use vital_typed_cells::Checked;
 
 /// Puts the name of the first port of a cell.
 fn put_cell(text: &mut String, cell: &Checked) -> Result<(), AllocError> {

@@ -9,12 +9,11 @@ use super::faults::put_bytes;
 use super::library::Prepared;
 use super::words::value;
 use std::alloc::{AllocError, Global};
-use vital_checked::{Checked, check_cell};
 use vital_library::Library;
 use vital_logic::to_byte;
 use vital_nodes::{Arch, Entity};
 use vital_objects::Port;
-use vital_typed_cells::TypedPackages;
+use vital_typed_cells::{Checked, TypedPackages, check_cell};
 use vital_worths::{PackageLevels, level_of, levels_of_packages};
 
 /// The entity of a name with its first architecture, if it has one.

@@ -10,14 +10,14 @@ use Rattle.vital_kernel.specs.Activations.{Activates, CanRun, KeepsValues, from_
 use Rattle.vital_kernel.specs.Cycles.{activated, sent}
 use Rattle.vital_kernel.specs.States.{State}
 use Rattle.vital_kernel.proofs.Activations.{messages_are}
-use Rattle.vital_kernel.proofs.Cells.{all_at, cell_there}
+use Rattle.vital_kernel.proofs.ProcessCells.{all_at, cell_there}
 use Rattle.vital_kernel.proofs.CycleLemmas.{on_ok}
 use Rattle.vital_kernel.proofs.Steps.{if_some_at, some_at}
-use Rattle.vital_network.specs.DesignNetworks.{driver_count}
-use Rattle.vital_network.specs.Networks.{NetCell, NetProcess, Network, all_drivers, lent_cell, processes}
-use Rattle.vital_network.specs.Soundness.{IsSoundCell, IsSoundNetwork}
-use Rattle.vital_network.specs.declared.network.NetCell.{NetCell as NetCell'}
-use Rattle.vital_processes.specs.Processes.{ProcessStates, after, done_by}
+use Rattle.vital_kernel.specs.DesignNetworks.{driver_count}
+use Rattle.vital_kernel.specs.Networks.{NetCell, NetProcess, Network, all_drivers, lent_cell, processes}
+use Rattle.vital_kernel.specs.Soundness.{IsSoundCell, IsSoundNetwork}
+use Rattle.vital_kernel.specs.declared.network.NetCell.{NetCell as NetCell'}
+use Rattle.vital_kernel.specs.Processes.{ProcessStates, after, done_by}
 use Rattle.vital_report.specs.Reporters.{PrinterState, PrintsPart}
 use Rattle.vital_report.specs.declared.print_error.PrintError.{PrintError}
 use Rattle.vital_signals.specs.SignalStates.{SignalState}

@@ -12,7 +12,7 @@ use Rattle.vital_kernel.specs.States.{State}
 use Rattle.vital_kernel.proofs.Texts.{Left, left_less}
 use Rattle.vital_machine.specs.declared.effect.Effect.{Effect}
 use Rattle.vital_machine.specs.declared.effect.Effect.TheVariants as effect
-use Rattle.vital_network.specs.Networks.{NetCell, NetProcess, Network}
+use Rattle.vital_kernel.specs.Networks.{NetCell, NetProcess, Network}
 use Rattle.vital_report.specs.Lines.{bytes_of, glitch, text_of, violation}
 use Rattle.vital_report.specs.Reporters.{PrinterState, Printed}
 

@@ -13,9 +13,9 @@ use Rattle.vital_kernel.specs.States.{State, values}
 use Rattle.vital_kernel.proofs.Activations.{all_from, behind_part, text_in-append}
 use Rattle.vital_kernel.proofs.EventLemmas.{event_texts, events_rise}
 use Rattle.vital_kernel.proofs.Picked.{picked, triggered_below}
-use Rattle.vital_processes.specs.Triggered.{triggered_by}
+use Rattle.vital_kernel.specs.Triggered.{triggered_by}
 use Rattle.vital_logic.specs.declared.level.Level.{Level}
-use Rattle.vital_network.specs.Networks.{NetProcess, Network, all_drivers, processes, sensitivity}
+use Rattle.vital_kernel.specs.Networks.{NetProcess, Network, all_drivers, processes, sensitivity}
 use Rattle.vital_signals.specs.Events.{new_values as new_events, with_values}
 use Rattle.vital_signals.specs.Lists.{AreRising}
 use Rattle.vital_signals.specs.SignalStates.{AreCurrent, SignalState, updated as renewed}

@@ -11,8 +11,8 @@ use Rattle.vital_kernel.specs.Activations.{event_text, event_text_at, init_text,
 use Rattle.vital_kernel.specs.Cycles.{Event, event_at}
 use Rattle.vital_kernel.specs.Lines.{event_line, init_line, lines_of}
 use Rattle.vital_logic.specs.declared.level.Level.{Level}
-use Rattle.vital_network.specs.Networks.{Network}
-use Rattle.vital_network.specs.declared.network.NetSignal.{NetSignal}
+use Rattle.vital_kernel.specs.Networks.{Network}
+use Rattle.vital_kernel.specs.declared.network.NetSignal.{NetSignal}
 use Rattle.vital_report.specs.Lines.{bytes_of, event, init, text_of}
 use Rattle.std.proofs.lemmas.List.Concat.{flat_map-append}
 use Rattle.vital_signals.specs.Events.{new_value, quiet_signal, with_value}

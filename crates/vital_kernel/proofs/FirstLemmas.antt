@@ -11,15 +11,15 @@ use Rattle.vital_kernel.specs.Handing.{AreStimulusDrivers}
 use Rattle.vital_kernel.specs.Kernels.{IsDriven, state_with}
 use Rattle.vital_kernel.specs.Lines.{init_lines}
 use Rattle.vital_kernel.specs.States.{State, values}
-use Rattle.vital_kernel.proofs.Cells.{all_behind}
+use Rattle.vital_kernel.proofs.ProcessCells.{all_behind}
 use Rattle.vital_kernel.proofs.EventLemmas.{init_texts, quiet_values}
 use Rattle.vital_kernel.proofs.Lifting.{all_with, part_with}
 use Rattle.vital_kernel.proofs.StimulusLemmas.{all_left, lines_assigned}
 use Rattle.vital_logic.specs.declared.level.Level.{Level}
 use Rattle.vital_netlist.specs.declared.design_lists.DesignDriver.{DesignDriver}
-use Rattle.vital_network.specs.Networks.{Network, all_drivers, processes}
-use Rattle.vital_network.specs.Soundness.{IsSoundNetwork}
-use Rattle.vital_processes.specs.Processes.{ProcessStates, first_variables}
+use Rattle.vital_kernel.specs.Networks.{Network, all_drivers, processes}
+use Rattle.vital_kernel.specs.Soundness.{IsSoundNetwork}
+use Rattle.vital_kernel.specs.Processes.{ProcessStates, first_variables}
 use Rattle.vital_report.specs.Lines.{text_of}
 use Rattle.vital_signals.specs.Events.{quiet_signal}
 use Rattle.vital_signals.specs.SignalStates.{SignalState, first_signals}

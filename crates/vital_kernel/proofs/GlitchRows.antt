@@ -14,10 +14,10 @@ use Rattle.vital_timing_checks.specs.declared.violated.CheckKind.TheVariants.{Pu
 use Rattle.vital_timing_checks.specs.declared.violated.Violated.{Violated}
 use Rattle.vital_worths.proofs.TreeLemmas.{level-signal}
 use Rattle.vital_kernel.specs.Cycles.{Event, Glitch, Happening, Violation, said, sent}
-use Rattle.vital_network.specs.DesignNetworks.{network}
+use Rattle.vital_kernel.specs.DesignNetworks.{network}
 use Rattle.vital_kernel.specs.Lines.{lines_of}
 use Rattle.vital_report.specs.Lines.{glitch, violation}
-use Rattle.vital_network.specs.Networks.{Network}
+use Rattle.vital_kernel.specs.Networks.{Network}
 use Rattle.vital_kernel.specs.Runs.{Step, cycle, step}
 use Rattle.vital_kernel.specs.States.{State}
 use Rattle.vital_signals.specs.declared.signal.Signal.{Signal}

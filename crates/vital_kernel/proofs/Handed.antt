@@ -10,16 +10,16 @@ use Rattle.vital_kernel.specs.Handing.{AreLeft, first_time, later_lines, with_li
 use Rattle.vital_kernel.specs.Kernels.{AreParts, Simulation, simulation_with, state_with}
 use Rattle.vital_kernel.specs.Runs.{up_to}
 use Rattle.vital_kernel.specs.States.{State}
-use Rattle.vital_kernel.proofs.Cells.{all_behind}
+use Rattle.vital_kernel.proofs.ProcessCells.{all_behind}
 use Rattle.vital_kernel.proofs.CycleLemmas.{as_many_drivers}
 use Rattle.vital_kernel.proofs.Handing.{left_later, left_more, next-with, rise-with}
 use Rattle.vital_kernel.proofs.KernelLemmas.{simulation}
 use Rattle.vital_kernel.proofs.Least.{next_is_above}
 use Rattle.vital_kernel.proofs.Lifting.{cycle_with, part_with}
-use Rattle.vital_network.specs.Networks.{Network}
-use Rattle.vital_network.specs.Soundness.{IsSoundNetwork}
-use Rattle.vital_processes.specs.Processes.{ProcessStates}
-use Rattle.vital_processes.specs.Triggered.{ListenerState}
+use Rattle.vital_kernel.specs.Networks.{Network}
+use Rattle.vital_kernel.specs.Soundness.{IsSoundNetwork}
+use Rattle.vital_kernel.specs.Processes.{ProcessStates}
+use Rattle.vital_kernel.specs.Triggered.{ListenerState}
 use Rattle.vital_signals.specs.SignalStates.{SignalState}
 use Rattle.vital_stim.specs.declared.stimuli.StimLine.{StimLine}
 

@@ -9,9 +9,9 @@ use Rattle.vital_machine.specs.declared.effect.Effect.TheVariants as effect
 use Rattle.vital_netlist.specs.declared.design_lists.DesignDriver.{DesignDriver}
 use Rattle.vital_stim.specs.declared.stimuli.StimLine.{StimLine}
 use Rattle.vital_kernel.specs.Cycles.{Part, activated, after_stimuli, all_activated, cycle_at, driver_of_port, first_drivers, initial_run, is_sensitive_to, new_values, sent, stimulated, updated}
-use Rattle.vital_network.specs.Networks.{NetProcess, Network, all_drivers, processes}
+use Rattle.vital_kernel.specs.Networks.{NetProcess, Network, all_drivers, processes}
 use Rattle.vital_kernel.specs.States.{State}
-use Rattle.vital_processes.specs.Processes.{done_by}
+use Rattle.vital_kernel.specs.Processes.{done_by}
 use Rattle.vital_kernel.proofs.Least.{all_rise_after, all_rise_lower}
 use Rattle.vital_kernel.proofs.Sends.{sent_rise}
 

@@ -9,9 +9,9 @@ use Rattle.vital_kernel.specs.Kernels.{AreParts, Simulation}
 use Rattle.vital_kernel.specs.States.{State}
 use Rattle.vital_kernel.proofs.CycleLemmas.{as_many_drivers, as_many_signals}
 use Rattle.vital_kernel.proofs.StimulusLemmas.{all_left}
-use Rattle.vital_processes.specs.Triggered.{ListenerState}
-use Rattle.vital_network.specs.Networks.{Network, all_drivers}
-use Rattle.vital_processes.specs.Processes.{ProcessStates}
+use Rattle.vital_kernel.specs.Triggered.{ListenerState}
+use Rattle.vital_kernel.specs.Networks.{Network, all_drivers}
+use Rattle.vital_kernel.specs.Processes.{ProcessStates}
 use Rattle.vital_signals.specs.SignalStates.{AreCurrent, SignalState}
 use Rattle.vital_stim.specs.declared.stimuli.StimLine.{StimLine}
 

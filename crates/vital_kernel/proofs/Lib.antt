@@ -19,7 +19,7 @@ mod GateRows
 mod LoopRows
 mod Texts
 mod Activations
-mod Cells
+mod ProcessCells
 mod Picked
 mod EventLemmas
 mod Keeping
@@ -35,3 +35,24 @@ mod Activating
 mod EffectLemmas
 mod FirstLemmas
 mod Handed
+pub mod ListenerLemmas
+pub mod RisingNumbers
+pub mod TriggeredLemmas
+pub mod SensitivityLemmas
+mod ListenerRows
+mod Rows
+pub mod ListLemmas
+pub mod InputLemmas
+pub mod PlaceLemmas
+pub mod ProcessRunLemmas
+pub mod FoundLemmas
+pub mod StartLemmas
+pub mod KeptLemmas
+pub mod Turns
+pub mod PortsNamed
+pub mod DriverNumbers
+pub mod DriverCounts
+pub mod DrivenBits
+pub mod PlacedCells
+pub mod AlikeCells
+pub mod SoundNetworks

@@ -6,13 +6,13 @@ use Rattle.vital_kernel.specs.Cycles.{Part, activated, all_activated, cycle_at, 
 use Rattle.vital_kernel.specs.Handing.{AreLeft, with_lines}
 use Rattle.vital_kernel.specs.Kernels.{state_with}
 use Rattle.vital_kernel.specs.States.{State, values}
-use Rattle.vital_kernel.proofs.Cells.{Each, each_filter}
+use Rattle.vital_kernel.proofs.ProcessCells.{Each, each_filter}
 use Rattle.vital_kernel.proofs.Handing.{advance-with, changed-with, currents-with}
 use Rattle.vital_logic.specs.declared.level.Level.{Level}
 use Rattle.vital_machine.specs.declared.effect.Effect.{Effect}
 use Rattle.vital_machine.specs.declared.effect.Effect.TheVariants as effect
-use Rattle.vital_network.specs.Networks.{NetProcess, Network, all_drivers, processes}
-use Rattle.vital_processes.specs.Processes.{done_by}
+use Rattle.vital_kernel.specs.Networks.{NetProcess, Network, all_drivers, processes}
+use Rattle.vital_kernel.specs.Processes.{done_by}
 use Rattle.vital_signals.specs.Events.{new_values as changed_values, with_values}
 use Rattle.vital_signals.specs.Values.{driven, values_driving}
 use Rattle.vital_stim.specs.declared.stimuli.StimLine.{StimLine}

@@ -11,10 +11,10 @@ use Rattle.vital_stim.specs.declared.stimuli.StimLine.{StimLine}
 use Rattle.vital_timing.specs.declared.delay.Delay.TheVariants as delay
 use Rattle.vital_worths.proofs.TreeLemmas.{level-logical, level-signal}
 use Rattle.vital_kernel.specs.Cycles.{Event, Happening, initial_run}
-use Rattle.vital_network.specs.DesignNetworks.{network}
+use Rattle.vital_kernel.specs.DesignNetworks.{network}
 use Rattle.vital_kernel.specs.Lines.{run_lines}
 use Rattle.vital_report.specs.Lines.{event, init}
-use Rattle.vital_network.specs.Networks.{Network}
+use Rattle.vital_kernel.specs.Networks.{Network}
 use Rattle.vital_kernel.specs.Runs.{DeltaPassed, IsRun, cycle, goes_on, passed, passes, step}
 use Rattle.vital_kernel.specs.States.{State}
 use Rattle.vital_signals.specs.declared.signal.Signal.{Signal}

@@ -9,10 +9,10 @@ use Rattle.vital_netlist.specs.Soundness.{driven_signals, wired_cells}
 use Rattle.vital_stim.specs.declared.stimuli.StimLine.{StimLine}
 use Rattle.vital_timing.specs.declared.glitch_mode.GlitchMode.TheVariants.{OnEvent}
 use Rattle.vital_kernel.specs.Cycles.{driver_of_port}
-use Rattle.vital_network.specs.DesignNetworks.{network, stimulus_drivers}
-use Rattle.vital_network.specs.Networks.{Network, all_drivers, processes, sensitivity}
+use Rattle.vital_kernel.specs.DesignNetworks.{network, stimulus_drivers}
+use Rattle.vital_kernel.specs.Networks.{Network, all_drivers, processes, sensitivity}
 use Rattle.vital_kernel.specs.States.{values}
-use Rattle.vital_processes.specs.Processes.{input}
+use Rattle.vital_kernel.specs.Processes.{input}
 use Rattle.vital_signals.specs.Values.{driven}
 use Rattle.vital_signals.specs.Events.{quiet_signal, with_value}
 use Rattle.vital_base.specs.declared.watch.Watch.TheVariants.{All, Ports}

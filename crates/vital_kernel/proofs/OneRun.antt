@@ -1,7 +1,7 @@
 -- From a state on there is one run.
 use Rattle.std.proofs.Common.{◌≡◌, ℕ, List, ◌++◌, refl, ap, subst, ◌∙◌}
 use Rattle.vital_kernel.specs.Cycles.{Happening}
-use Rattle.vital_network.specs.Networks.{Network}
+use Rattle.vital_kernel.specs.Networks.{Network}
 use Rattle.vital_kernel.specs.Runs.{DeltaPassed, End, IsRun, ends, goes_on, passes}
 use Rattle.vital_kernel.specs.States.{State}
 

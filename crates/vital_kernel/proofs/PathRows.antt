@@ -9,10 +9,10 @@ use Rattle.vital_stim.specs.declared.stimuli.StimLine.{StimLine}
 use Rattle.vital_timing.specs.declared.glitch_mode.GlitchMode.TheVariants.{OnEvent}
 use Rattle.vital_worths.proofs.TreeLemmas.{level-signal}
 use Rattle.vital_kernel.specs.Cycles.{Event, Glitch, Happening, initial_run}
-use Rattle.vital_network.specs.DesignNetworks.{network}
+use Rattle.vital_kernel.specs.DesignNetworks.{network}
 use Rattle.vital_kernel.specs.Lines.{run_lines}
 use Rattle.vital_report.specs.Lines.{event, glitch, init}
-use Rattle.vital_network.specs.Networks.{Network}
+use Rattle.vital_kernel.specs.Networks.{Network}
 use Rattle.vital_kernel.specs.Runs.{Ended, IsRun, cycle, ended, ends, goes_on, step}
 use Rattle.vital_kernel.specs.States.{State}
 use Rattle.vital_signals.specs.declared.signal.Signal.{Signal}

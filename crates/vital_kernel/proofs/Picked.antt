@@ -4,9 +4,9 @@ use Rattle.std.specs.List.{enumerate_from, filter, filter_map, list_any}
 use Rattle.std.specs.Prelude.{All, slice_get}
 use Rattle.std.proofs.lemmas.List.Elements.{All-cons, filter_agree}
 use Rattle.vital_kernel.specs.Cycles.{is_sensitive_to}
-use Rattle.vital_processes.specs.Triggered.{is_triggered, triggered_by}
+use Rattle.vital_kernel.specs.Triggered.{is_triggered, triggered_by}
 use Rattle.vital_logic.specs.declared.level.Level.{Level}
-use Rattle.vital_network.specs.Networks.{NetProcess, sensitivity}
+use Rattle.vital_kernel.specs.Networks.{NetProcess, sensitivity}
 
 -- ---- the same test
 

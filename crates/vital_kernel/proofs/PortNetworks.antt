@@ -4,10 +4,10 @@ use Rattle.std.specs.List.{enumerate_from}
 use Rattle.vital_base.specs.declared.ports.PortBit.{PortBit}
 use Rattle.vital_netlist.specs.declared.design_lists.DesignDriver.{DesignDriver}
 use Rattle.vital_stim.specs.declared.stimuli.StimLine.{StimLine}
-use Rattle.vital_network.specs.DesignNetworks.{is_stimulated, signal_of, stimulus_driver, stimulus_drivers}
-use Rattle.vital_network.specs.Networks.{Network}
-use Rattle.vital_network.specs.declared.network.NetSignal.{NetSignal}
-use Rattle.vital_network.specs.PortNetworks.{IsOfDesign, port_design, port_signal, signal_in_design}
+use Rattle.vital_kernel.specs.DesignNetworks.{is_stimulated, signal_of, stimulus_driver, stimulus_drivers}
+use Rattle.vital_kernel.specs.Networks.{Network}
+use Rattle.vital_kernel.specs.declared.network.NetSignal.{NetSignal}
+use Rattle.vital_kernel.specs.PortNetworks.{IsOfDesign, port_design, port_signal, signal_in_design}
 use Rattle.vital_base.specs.declared.watch.Watch.TheVariants.{All}
 
 -- where all ports are named, none is left out

@@ -6,11 +6,11 @@ use Rattle.vital_base.specs.declared.ports.PortBit.{PortBit}
 use Rattle.vital_logic.specs.declared.level.Level.{Level}
 use Rattle.vital_logic.specs.declared.level.Level.TheVariants.{U, Zero, One, Z}
 use Rattle.vital_stim.specs.declared.stimuli.StimLine.{StimLine}
-use Rattle.vital_network.specs.DesignNetworks.{network}
+use Rattle.vital_kernel.specs.DesignNetworks.{network}
 use Rattle.vital_kernel.specs.Lines.{run_lines}
 use Rattle.vital_report.specs.Lines.{Said, event, init}
-use Rattle.vital_network.specs.Networks.{Network}
-use Rattle.vital_network.specs.PortNetworks.{port_design}
+use Rattle.vital_kernel.specs.Networks.{Network}
+use Rattle.vital_kernel.specs.PortNetworks.{port_design}
 use Rattle.vital_kernel.specs.Runs.{End, Ended, Run, whole_run}
 use Rattle.vital_base.specs.declared.watch.Watch.TheVariants.{All}
 

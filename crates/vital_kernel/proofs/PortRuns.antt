@@ -13,8 +13,8 @@ use Rattle.vital_kernel.proofs.Kept.{initial_keeps}
 use Rattle.vital_kernel.proofs.Least.{all_rise_after, all_rise_lower, all_rise_next, next_is_above}
 use Rattle.vital_kernel.proofs.RunLemmas.{step_cycle}
 use Rattle.vital_kernel.proofs.SomeRun.{Next, next_in, one_whole_run}
-use Rattle.vital_network.specs.Networks.{NetCell, NetProcess, Network, processes, processes_of}
-use Rattle.vital_network.specs.PortNetworks.{port_network}
+use Rattle.vital_kernel.specs.Networks.{NetCell, NetProcess, Network, processes, processes_of}
+use Rattle.vital_kernel.specs.PortNetworks.{port_network}
 
 -- only the first cycle can come at the present time
 record IsAt (s : State) : Type 0 where

@@ -22,10 +22,10 @@ use Rattle.vital_timing.specs.declared.delay.Delay.{Delay}
 use Rattle.vital_timing.specs.declared.delay.Delay.TheVariants as delay
 use Rattle.vital_typed_cells.specs.declared.typed_cell.TypedCell.{TypedCell}
 use Rattle.vital_typed_cells.specs.declared.wire.WireDelay.{WireDelay}
-use Rattle.vital_network.specs.DesignNetworks.{network}
+use Rattle.vital_kernel.specs.DesignNetworks.{network}
 use Rattle.vital_kernel.specs.Lines.{run_lines}
 use Rattle.vital_report.specs.Lines.{Said}
-use Rattle.vital_network.specs.Networks.{Network}
+use Rattle.vital_kernel.specs.Networks.{Network}
 use Rattle.vital_kernel.specs.Runs.{End, Run, whole_run}
 use Rattle.vital_base.specs.declared.watch.Watch.{Watch}
 

@@ -19,7 +19,7 @@ use Rattle.vital_kernel.specs.declared.run_error.RunError.TheVariants as run
 use Rattle.vital_kernel.proofs.Activations.{text_in-append}
 use Rattle.vital_kernel.proofs.SomeRun.{fewer_left}
 use Rattle.vital_kernel.proofs.Texts.{Left, left_all, left_breaks_in, left_less, left_none, left_stops, printed_then, stopped_then, stopped_within}
-use Rattle.vital_network.specs.Networks.{Network}
+use Rattle.vital_kernel.specs.Networks.{Network}
 use Rattle.vital_report.specs.Lines.{bytes_of, text_of}
 use Rattle.vital_report.specs.Reporters.{Printed, PrinterState, PrintsPart}
 use Rattle.vital_report.specs.declared.print_error.PrintError.{PrintError}

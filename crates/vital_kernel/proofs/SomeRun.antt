@@ -7,7 +7,7 @@ use Rattle.std.proofs.lemmas.Nat.{mul-le}
 use Rattle.vital_agenda.specs.Driver.{AllRise, next_time}
 use Rattle.vital_stim.specs.declared.stimuli.StimLine.{StimLine}
 use Rattle.vital_kernel.specs.Cycles.{Happening, Part, cycle_at, initial_run}
-use Rattle.vital_network.specs.Networks.{Network}
+use Rattle.vital_kernel.specs.Networks.{Network}
 use Rattle.vital_kernel.specs.Runs.{DeltaPassed, End, Ended, HasOneRun, HasOneRunFrom, IsRun, Run, Step, behind, cycle, delta_at, ended, ends, goes_on, going_on, passed, passes, run_within, step, step_at, up_to}
 use Rattle.vital_kernel.specs.States.{State}
 use Rattle.vital_kernel.proofs.Kept.{Keeps, cycle_keeps, initial_keeps}

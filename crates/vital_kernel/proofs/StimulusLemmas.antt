@@ -13,9 +13,9 @@ use Rattle.vital_kernel.specs.Cycles.{stimulated}
 use Rattle.vital_kernel.specs.Handing.{AreLeft, AreStimulusDrivers, stimulated_by, with_lines}
 use Rattle.vital_kernel.specs.Kernels.{IsDriven}
 use Rattle.vital_netlist.specs.declared.design_lists.DesignDriver.{DesignDriver}
-use Rattle.vital_network.specs.Networks.{Network, all_drivers}
-use Rattle.vital_network.specs.Soundness.{IsSoundNetwork}
-use Rattle.vital_network.specs.declared.network.NetSignal.{NetSignal}
+use Rattle.vital_kernel.specs.Networks.{Network, all_drivers}
+use Rattle.vital_kernel.specs.Soundness.{IsSoundNetwork}
+use Rattle.vital_kernel.specs.declared.network.NetSignal.{NetSignal}
 use Rattle.vital_stim.specs.declared.stimuli.StimLine.{StimLine}
 
 abbrev pub HasDriver : ℕ → List DesignDriver → Type 0

@@ -11,9 +11,9 @@ use Rattle.vital_logic.specs.declared.level.Level.{Level}
 use Rattle.vital_logic.specs.declared.level.Level.TheVariants.{U}
 use Rattle.vital_machine.specs.declared.effect.Effect.{Effect}
 use Rattle.vital_machine.specs.declared.effect.Effect.TheVariants as effect
-use Rattle.vital_network.specs.Networks.{NetCell, NetProcess, Network, all_drivers}
-use Rattle.vital_network.specs.declared.network.NetSignal.{NetSignal}
-use Rattle.vital_processes.specs.Processes.{ProcessStates}
+use Rattle.vital_kernel.specs.Networks.{NetCell, NetProcess, Network, all_drivers}
+use Rattle.vital_kernel.specs.declared.network.NetSignal.{NetSignal}
+use Rattle.vital_kernel.specs.Processes.{ProcessStates}
 use Rattle.vital_report.specs.Lines.{bytes_of, event, glitch, init, text_of, violation}
 use Rattle.vital_report.specs.Reporters.{PrinterState, PrintsPart}
 use Rattle.vital_report.specs.declared.print_error.PrintError.{PrintError}

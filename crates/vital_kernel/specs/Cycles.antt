@@ -7,11 +7,11 @@ use Rattle.vital_base.specs.declared.kind.Kind.TheVariants.{Transport}
 use Rattle.vital_logic.specs.declared.level.Level.{Level}
 use Rattle.vital_machine.specs.declared.effect.Effect.{Effect}
 use Rattle.vital_machine.specs.declared.effect.Effect.TheVariants as effect
-use Rattle.vital_processes.specs.Processes.{done_by, first_variables, with_slots}
+use Rattle.vital_kernel.specs.Processes.{done_by, first_variables, with_slots}
 use Rattle.vital_signals.specs.Events.{new_values as changed_values, quiet_signal, with_values}
 use Rattle.vital_stim.specs.declared.stimuli.StimLine.{StimLine}
 use Rattle.vital_timing_checks.specs.declared.violated.Violated.{Violated}
-use Rattle.vital_network.specs.Networks.{NetProcess, Network, all_drivers, processes, sensitivity}
+use Rattle.vital_kernel.specs.Networks.{NetProcess, Network, all_drivers, processes, sensitivity}
 use Rattle.vital_kernel.specs.States.{State, values}
 
 -- What is told of a run: a signal gets a new value, or an instance of a cell has a message of a glitch at a port or of a violated check. The

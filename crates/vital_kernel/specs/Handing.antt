@@ -5,7 +5,7 @@ use Rattle.std.specs.Option.{option_map}
 use Rattle.vital_agenda.specs.Agendas.{changed}
 use Rattle.vital_agenda.specs.Driver.{Driver, send}
 use Rattle.vital_base.specs.declared.kind.Kind.TheVariants.{Transport}
-use Rattle.vital_network.specs.Networks.{Network}
+use Rattle.vital_kernel.specs.Networks.{Network}
 use Rattle.vital_stim.specs.declared.stimuli.StimLine.{StimLine}
 
 -- ---- drivers

@@ -9,9 +9,9 @@ use Rattle.vital_kernel.specs.Runs.{DeltaPassed, Ended, IsRunFrom, IsWholeRun, R
 use Rattle.vital_kernel.specs.States.{State}
 use Rattle.vital_kernel.specs.declared.run_error.RunError.{RunError}
 use Rattle.vital_kernel.specs.declared.run_error.RunError.TheVariants as error
-use Rattle.vital_processes.specs.Triggered.{ListenerState}
-use Rattle.vital_network.specs.Networks.{Network, all_drivers, processes as processes', sensitivity}
-use Rattle.vital_processes.specs.Processes.{ProcessStates}
+use Rattle.vital_kernel.specs.Triggered.{ListenerState}
+use Rattle.vital_kernel.specs.Networks.{Network, all_drivers, processes as processes', sensitivity}
+use Rattle.vital_kernel.specs.Processes.{ProcessStates}
 use Rattle.vital_report.specs.Lines.{Said, text_of}
 use Rattle.vital_report.specs.Reporters.{Printed, PrinterState, Stopped}
 use Rattle.vital_signals.specs.SignalStates.{AreCurrent, SignalState}

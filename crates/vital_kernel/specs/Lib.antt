@@ -7,3 +7,17 @@ pub mod RunErrors
 pub mod Handing
 pub mod Kernels
 pub mod Activations
+pub mod Triggered
+pub mod Sensitivities
+pub mod Lists
+pub mod Processes
+pub mod Programs
+pub mod Places
+pub mod Instances
+pub mod Kept
+pub mod Networks
+pub mod DesignNetworks
+pub mod PortNetworks
+pub mod Soundness
+pub mod Placed
+pub mod Alike

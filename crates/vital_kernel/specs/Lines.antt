@@ -5,8 +5,8 @@ use Rattle.std.specs.Option.{option_map, option_map_or}
 use Rattle.vital_kernel.specs.Cycles.{Event, Glitch, Happening, Violation, first_drivers}
 use Rattle.vital_kernel.specs.States.{values}
 use Rattle.vital_logic.specs.declared.level.Level.{Level}
-use Rattle.vital_network.specs.Networks.{Network}
-use Rattle.vital_network.specs.declared.network.NetSignal.{NetSignal}
+use Rattle.vital_kernel.specs.Networks.{Network}
+use Rattle.vital_kernel.specs.declared.network.NetSignal.{NetSignal}
 use Rattle.vital_report.specs.Lines.{Said, event, glitch, init, violation}
 use Rattle.vital_typed_cells.specs.Bits.{names_of}
 

@@ -2,7 +2,7 @@
 use Rattle.std.specs.Prelude.{◌≡◌, ℕ, List}
 use Rattle.vital_base.specs.declared.ports.PortBit.{PortBit}
 use Rattle.vital_kernel.specs.Runs.{Ended, IsWholeRun, Run}
-use Rattle.vital_network.specs.PortNetworks.{port_network}
+use Rattle.vital_kernel.specs.PortNetworks.{port_network}
 use Rattle.vital_stim.specs.declared.stimuli.StimLine.{StimLine}
 
 -- The run of the ports ends at its end time, and not at the limit of delta numbers.

@@ -4,7 +4,7 @@ use Rattle.std.specs.Option.{option_and_then, option_map}
 use Rattle.vital_agenda.specs.Driver.{next_time}
 use Rattle.vital_stim.specs.declared.stimuli.StimLine.{StimLine}
 use Rattle.vital_kernel.specs.Cycles.{Happening, cycle_at, initial_run}
-use Rattle.vital_network.specs.Networks.{Network}
+use Rattle.vital_kernel.specs.Networks.{Network}
 use Rattle.vital_kernel.specs.States.{State}
 
 -- A time that may be missing, where it is not after the end time.

@@ -3,13 +3,13 @@
 ghost use Rattle.std.specs.Prelude.{◌≡◌, ◌<◌, [], ◌∷◌, false, All, Some, length, slice_get};
 ghost use Rattle.std.specs.List.{filter_map};
 ghost use Rattle.vital_kernel.specs.Activations.{Activates, CanRun, KeepsValues, state_of};
-ghost use Rattle.vital_network.specs.Networks.{NetProcess, processes as processes'};
+ghost use Rattle.vital_kernel.specs.Networks.{NetProcess, processes as processes'};
 
 use crate::effects::make_effects;
+use crate::network::Network;
+use crate::processes::Processes;
 use vital_agenda::Agenda;
 use vital_base::Sink;
-use vital_network::Network;
-use vital_processes::Processes;
 use vital_report::{PrintError, Printer};
 use vital_signals::Signals;
 

@@ -5,17 +5,17 @@ ghost use Rattle.std.specs.List.{flat_map, fold};
 ghost use Rattle.vital_kernel.specs.Activations.{KeepsValues, message_text};
 ghost use Rattle.vital_kernel.specs.Cycles.{sent};
 ghost use Rattle.vital_machine.specs.Fits.{EffectIsOfCell, EndsInTime};
-ghost use Rattle.vital_network.specs.DesignNetworks.{driver_count};
-ghost use Rattle.vital_network.specs.Networks.{lent_cell};
+ghost use Rattle.vital_kernel.specs.DesignNetworks.{driver_count};
+ghost use Rattle.vital_kernel.specs.Networks.{lent_cell};
 ghost use Rattle.vital_report.specs.Reporters.{PrintsPart};
 ghost use Rattle.vital_typed_cells.specs.Sound.{bit_count};
 
+use crate::network::NetCell;
 use crate::printing::{print_glitch, print_violation};
+use crate::processes::Processes;
 use vital_agenda::Agenda;
 use vital_base::Sink;
 use vital_machine::Effect;
-use vital_network::NetCell;
-use vital_processes::Processes;
 use vital_report::{PrintError, Printer};
 use vital_signals::assignments_keep_values;
 

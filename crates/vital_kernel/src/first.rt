@@ -2,13 +2,13 @@
 
 ghost use Rattle.std.specs.Prelude.{◌≡◌, ◌<◌, ◌^◌, ◌++◌, All, IfOk, OnOk, length, map};
 ghost use Rattle.vital_agenda.specs.Agendas.{idle};
-ghost use Rattle.vital_network.specs.Networks.{all_drivers};
+ghost use Rattle.vital_kernel.specs.Networks.{all_drivers};
 ghost use Rattle.vital_signals.specs.SignalStates.{AreCurrent, first_signals as first_signals'};
 
+use crate::network::{NetSignal, Network};
 use std::alloc::{AllocError, Global};
 use vital_logic::Level;
 use vital_netlist::DesignDriver;
-use vital_network::{NetSignal, Network};
 use vital_signals::Signals;
 
 /// The first value of each driver.

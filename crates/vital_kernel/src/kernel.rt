@@ -13,15 +13,16 @@ ghost use Rattle.vital_report.specs.Reporters.{PrintsPart};
 
 use crate::activation::{run_all, run_some};
 use crate::first::{first_signals, first_values};
+use crate::listeners::Listeners;
+use crate::network::Network;
 use crate::printing::{print_events, print_inits};
+use crate::processes::Processes;
 use crate::run_error::RunError;
 use crate::stimuli::{first_time, hand_due, sooner, stimulus_drivers};
 use std::alloc::{AllocError, Global};
 use std::marker::Model;
 use vital_agenda::{Agenda, Due};
 use vital_base::{Sink, Time};
-use vital_network::Network;
-use vital_processes::{Listeners, Processes};
 use vital_report::{PrintError, Printer};
 use vital_signals::Signals;
 use vital_stim::StimLine;
@@ -50,7 +51,7 @@ impl<'a, A: Agenda> Model for Kernel<'a, A> {
     ghost use Rattle.std.specs.Coded.{codes};
     ghost use Rattle.vital_kernel.specs.Kernels.{AreParts, Simulation, simulation_with};
     ghost use Rattle.vital_netlist.specs.contracts.design_lists.DesignDriver as driver;
-    ghost use Rattle.vital_network.specs.contracts.network.NetSignal as signal;
+    ghost use Rattle.vital_kernel.specs.contracts.network.NetSignal as signal;
     ghost use Rattle.vital_timing.specs.contracts.delay.Delay as delay;
     ghost use Rattle.vital_typed_cells.specs.contracts.typed_cell.TypedCell as tree;
 

@@ -3,9 +3,9 @@
 ghost use Rattle.std.specs.Prelude.{◌≡◌, ℕ, ◌<◌, true, List, length};
 ghost use Rattle.vital_agenda.specs.Driver.{AllRise};
 ghost use Rattle.vital_base.specs.declared.ports.PortBit.{PortBit};
-ghost use Rattle.vital_network.specs.DesignNetworks.{is_stimulated};
-ghost use Rattle.vital_network.specs.Networks.{Network};
-ghost use Rattle.vital_network.specs.PortNetworks.{IsOfDesign};
+ghost use Rattle.vital_kernel.specs.DesignNetworks.{is_stimulated};
+ghost use Rattle.vital_kernel.specs.Networks.{Network};
+ghost use Rattle.vital_kernel.specs.PortNetworks.{IsOfDesign};
 ghost use Rattle.vital_kernel.specs.PortRuns.{IsPortRun};
 ghost use Rattle.vital_kernel.specs.Runs.{HasOneRun, HasOneRunFrom, Run};
 ghost use Rattle.vital_kernel.specs.States.{State};

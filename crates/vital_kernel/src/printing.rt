@@ -4,14 +4,14 @@ ghost use Rattle.std.specs.Prelude.{◌≡◌, ◌<◌, false, All, IfSome, leng
 ghost use Rattle.std.specs.List.{flat_map, zip};
 ghost use Rattle.std.specs.Option.{option_copied, option_map};
 ghost use Rattle.vital_kernel.specs.Activations as spec;
-ghost use Rattle.vital_network.specs.Networks.{lent_cell};
+ghost use Rattle.vital_kernel.specs.Networks.{lent_cell};
 ghost use Rattle.vital_report.specs.Lines.{bytes_of, glitch as glitch', violation as violation'};
 ghost use Rattle.vital_report.specs.Reporters.{Prints};
 ghost use Rattle.vital_typed_cells.specs.Sound.{bit_count};
 
+use crate::network::{NetCell, NetSignal};
 use vital_base::{Sink, Time, WriteFault};
 use vital_logic::Level;
-use vital_network::{NetCell, NetSignal};
 use vital_report::{Line, Printer};
 use vital_signals::Signals;
 use vital_timing_checks::Violated;

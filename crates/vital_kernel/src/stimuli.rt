@@ -6,11 +6,11 @@ ghost use Rattle.vital_agenda.specs.Driver.{next_time, sooner as sooner'};
 ghost use Rattle.vital_kernel.specs.Activations.{KeepsValues};
 ghost use Rattle.vital_kernel.specs.Handing.{AreLeft, AreStimulusDrivers, due_lines, first_time as first_time', later_lines, with_lines};
 
+use crate::network::Network;
 use std::alloc::{AllocError, Global};
 use vital_agenda::Agenda;
 use vital_base::{Kind, Time};
 use vital_netlist::DesignDriver;
-use vital_network::Network;
 use vital_signals::assignments_keep_values;
 use vital_stim::StimLine;
 

@@ -11,10 +11,9 @@ ghost use Rattle.vital_instances.specs.Units.{Unit, unit_at};
 use crate::found::Found;
 use std::alloc::{AllocError, Global};
 use std::marker::Model;
-use vital_checked::Checked;
 use vital_instances::{Instance, instances_are_good};
 use vital_library::Library;
-use vital_typed_cells::TypedPackages;
+use vital_typed_cells::{Checked, TypedPackages};
 use vital_worths::{PackageLevels, levels_of_packages};
 
 /// The cells of a design, each once however many instances it has, by their first instances. They are made once for a design. Contracts see

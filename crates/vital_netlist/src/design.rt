@@ -12,7 +12,7 @@ use crate::names::{put_bit, put_dots, put_path};
 use std::alloc::{AllocError, Global};
 use std::marker::Model;
 use vital_base::{List, Ports};
-use vital_checked::Checked;
+use vital_typed_cells::Checked;
 
 /// A library elaborated under a top (IEEE 1076-1993, clause 12). It is sound: its cells are, each number in it is there, each name is an
 /// identifier, each instance of a cell is wired, and the drivers are those of these instances. Contracts see it as the lists of its parts.

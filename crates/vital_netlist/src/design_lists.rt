@@ -5,9 +5,9 @@ ghost use Rattle.std.specs.List.{count_by, range_with_len};
 
 use std::alloc::{AllocError, Global};
 use vital_base::{List, Ports};
-use vital_checked::Checked;
 use vital_logic::Level;
 use vital_naturals::Natural;
+use vital_typed_cells::Checked;
 
 /// Where an instance stands.
 #[derive(Clone, Copy)]

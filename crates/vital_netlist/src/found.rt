@@ -13,11 +13,10 @@ ghost use Rattle.vital_nodes.specs.declared.unit.Role.TheVariants as role;
 
 use std::alloc::{AllocError, Global};
 use vital_as_read::cells_are_as_read;
-use vital_checked::Checked;
 use vital_instances::{Instance, LibraryUnit, unit_at};
 use vital_library::Library;
 use vital_nodes::Role;
-use vital_typed_cells::{TypedPackages, read_typed_cell, typed_is_sound};
+use vital_typed_cells::{Checked, TypedPackages, read_typed_cell, typed_is_sound};
 
 /// The cells that were found so far, and for each entity of the library the number of its cell, if it is one of these.
 #[derive(Drop)]

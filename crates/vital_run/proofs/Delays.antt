@@ -7,11 +7,11 @@ use Rattle.std.specs.Option.{option_and_then, option_map}
 use Rattle.std.proofs.lemmas.List.Elements.{All-cons, All-head, All-nil, All-push, All-tail, filter_map-append}
 use Rattle.std.proofs.lemmas.List.{append-nil, map-append, take_more}
 use Rattle.std.proofs.lemmas.Option.{get_or_from_slice_get, slice_get-map, slice_get_within}
-use Rattle.vital_checked.specs.Answers.{default_values}
-use Rattle.vital_checked.specs.Fits.{FitsCell}
+use Rattle.vital_typed_cells.specs.Answers.{default_values}
+use Rattle.vital_typed_cells.specs.Fits.{FitsCell}
 use Rattle.vital_netlist.specs.Designs.{Design, DesignInstance, lent_instance}
 use Rattle.vital_netlist.specs.declared.design_lists.DesignInstance.{DesignInstance as DesignInstance'}
-use Rattle.vital_network.specs.DesignNetworks.{placed_cell, placed_cells}
+use Rattle.vital_kernel.specs.DesignNetworks.{placed_cell, placed_cells}
 use Rattle.vital_timing.specs.declared.delay.Delay.{Delay}
 use Rattle.vital_run.specs.Simulations.{default_delays}
 use Rattle.vital_typed_cells.specs.declared.typed_cell.TypedCell.{TypedCell}

@@ -8,9 +8,9 @@ use Rattle.vital_base.specs.declared.watch.Watch.{Watch}
 use Rattle.vital_kernel.specs.Kernels.{IsDriven}
 use Rattle.vital_netlist.specs.Designs.{Design}
 use Rattle.vital_netlist.specs.declared.design_lists.DesignDriver.{DesignDriver}
-use Rattle.vital_network.specs.DesignNetworks.{is_stimulated, network, stimulus_driver, stimulus_drivers}
-use Rattle.vital_network.specs.Networks.{Network}
-use Rattle.vital_network.specs.PortNetworks.{port_network}
+use Rattle.vital_kernel.specs.DesignNetworks.{is_stimulated, network, stimulus_driver, stimulus_drivers}
+use Rattle.vital_kernel.specs.Networks.{Network}
+use Rattle.vital_kernel.specs.PortNetworks.{port_network}
 use Rattle.vital_stim.specs.Stimuli.{Fits}
 use Rattle.vital_stim.specs.declared.stimuli.StimLine.{StimLine}
 use Rattle.vital_stim.specs.declared.stimuli.Stimuli.{Stimuli}

@@ -9,7 +9,7 @@ use Rattle.vital_kernel.specs.Lines.{lines_of, run_lines}
 use Rattle.vital_kernel.specs.Runs.{DeltaPassed, End, Ended, HasOneRun, IsWholeRun, Run}
 use Rattle.vital_kernel.specs.declared.run_error.RunError.{RunError}
 use Rattle.vital_kernel.specs.declared.run_error.RunError.TheVariants as error
-use Rattle.vital_network.specs.Networks.{Network}
+use Rattle.vital_kernel.specs.Networks.{Network}
 use Rattle.vital_report.specs.Lines.{Said, bytes_of, end, refused_delta, text_of, version}
 use Rattle.vital_report.specs.Reporters.{PrinterState, Printed, Stopped}
 use Rattle.vital_stim.specs.declared.stimuli.StimLine.{StimLine}

@@ -7,8 +7,8 @@ use Rattle.vital_base.specs.declared.place.Place.{Place}
 use Rattle.vital_netlist.specs.Designs.{Design}
 use Rattle.vital_netlist.specs.Elaboration.{Fault as NetFault, elaborated}
 use Rattle.vital_netlist.specs.Refusals.{refused as refused_as}
-use Rattle.vital_network.specs.Networks.{Network}
-use Rattle.vital_network.specs.PortNetworks.{port_network}
+use Rattle.vital_kernel.specs.Networks.{Network}
+use Rattle.vital_kernel.specs.PortNetworks.{port_network}
 use Rattle.vital_instances.specs.Judges.{IsJudge, Judge}
 use Rattle.vital_level0.specs.Breaches.{HasOneFirst}
 use Rattle.vital_library.specs.Faults.{least_of, faults}

@@ -4,8 +4,8 @@ use Rattle.vital_base.specs.declared.ports.PortBit.{PortBit}
 use Rattle.vital_kernel.specs.Lines.{run_lines}
 use Rattle.vital_kernel.specs.PortRuns.{IsPortRun}
 use Rattle.vital_kernel.specs.Runs.{Ended, HasOneRun, Run}
-use Rattle.vital_network.specs.Networks.{Network}
-use Rattle.vital_network.specs.PortNetworks.{port_network}
+use Rattle.vital_kernel.specs.Networks.{Network}
+use Rattle.vital_kernel.specs.PortNetworks.{port_network}
 use Rattle.vital_stim.specs.declared.stimuli.StimLine.{StimLine}
 use Rattle.vital_stim.specs.declared.stimuli.Stimuli.{Stimuli}
 use Rattle.vital_run.specs.Answer.{Answer}

@@ -11,7 +11,7 @@ use Rattle.vital_stim.specs.declared.stimuli.StimLine.{StimLine}
 use Rattle.vital_agenda.specs.declared.transaction.Transaction.{Transaction}
 use Rattle.vital_kernel.specs.Lines.{run_lines}
 use Rattle.vital_report.specs.Lines.{event, init, line_of, text_of}
-use Rattle.vital_network.specs.PortNetworks.{port_network}
+use Rattle.vital_kernel.specs.PortNetworks.{port_network}
 use Rattle.vital_kernel.specs.Runs.{whole_run}
 use Rattle.vital_run.specs.Answer.{Answer}
 use Rattle.vital_run.specs.Runs.{run_answer}

@@ -2,7 +2,7 @@
 use Rattle.std.specs.Prelude.{ℕ, ◌≡◌, List, ◌++◌}
 use Rattle.vital_kernel.specs.Lines.{run_lines}
 use Rattle.vital_kernel.specs.Runs.{DeltaPassed, End, Ended, IsWholeRun, Run}
-use Rattle.vital_network.specs.Networks.{Network}
+use Rattle.vital_kernel.specs.Networks.{Network}
 use Rattle.vital_report.specs.Lines.{Said, bytes_of, end, refused_delta, text_of, version}
 use Rattle.vital_stim.specs.declared.stimuli.StimLine.{StimLine}
 use Rattle.vital_run.specs.Answer.{Answer}

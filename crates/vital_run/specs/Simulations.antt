@@ -1,9 +1,9 @@
 -- The answer of `sim`: the run of the design under a top with stimuli.
 use Rattle.std.specs.Prelude.{◌≡◌, ℕ, List, map, Some, Result, Ok, Err}
-use Rattle.vital_checked.specs.Answers.{default_values}
+use Rattle.vital_typed_cells.specs.Answers.{default_values}
 use Rattle.vital_netlist.specs.Designs.{Design}
-use Rattle.vital_network.specs.DesignNetworks.{network, placed_cells}
-use Rattle.vital_network.specs.Networks.{Network}
+use Rattle.vital_kernel.specs.DesignNetworks.{network, placed_cells}
+use Rattle.vital_kernel.specs.Networks.{Network}
 use Rattle.vital_stim.specs.Stimuli.{stim}
 use Rattle.vital_stim.specs.declared.fault.StimFault.{StimFault}
 use Rattle.vital_stim.specs.declared.stimuli.StimLine.{StimLine}

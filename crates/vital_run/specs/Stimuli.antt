@@ -2,7 +2,7 @@
 use Rattle.std.specs.Prelude.{ℕ, ◌≡◌, List, None, Result, Ok, Err}
 use Rattle.vital_kernel.specs.Lines.{run_lines}
 use Rattle.vital_kernel.specs.Runs.{Ended, IsWholeRun, Run}
-use Rattle.vital_network.specs.PortNetworks.{port_network}
+use Rattle.vital_kernel.specs.PortNetworks.{port_network}
 use Rattle.vital_report.specs.Lines.{refused_stimulus}
 use Rattle.vital_report.specs.declared.line.StimulusWhy.{StimulusWhy}
 use Rattle.vital_report.specs.declared.line.StimulusWhy.TheVariants as printed

@@ -11,8 +11,7 @@ use crate::status::Status;
 use std::alloc::{AllocError, Global};
 use vital_agenda::QueueAgenda;
 use vital_base::{Sink, Time, WriteFault};
-use vital_kernel::{Kernel, RunError, one_run};
-use vital_network::Network;
+use vital_kernel::{Kernel, Network, RunError, one_run};
 use vital_report::{Line, Printer};
 use vital_stim::StimLine;
 

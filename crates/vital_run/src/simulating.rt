@@ -4,8 +4,8 @@ ghost use Rattle.std.specs.Prelude.{◌≡◌, ◌^◌, ◌≤◌, All, IfOk, fa
 ghost use Rattle.std.specs.List.{filter_map};
 ghost use Rattle.std.specs.List.Sorted.{IsNonDecreasing};
 ghost use Rattle.std.specs.Option.{option_and_then, option_copied};
-ghost use Rattle.vital_checked.specs.Answers.{default_values};
-ghost use Rattle.vital_checked.specs.Fits.{FitsCell};
+ghost use Rattle.vital_typed_cells.specs.Answers.{default_values};
+ghost use Rattle.vital_typed_cells.specs.Fits.{FitsCell};
 ghost use Rattle.vital_stim.specs.Stimuli.{Fits};
 ghost use Rattle.vital_run.specs.Outcome.{Stage};
 ghost use Rattle.vital_run.specs.Runs.{IsRunAnswer};
@@ -16,11 +16,11 @@ use crate::status::Status;
 use crate::stimuli::refuse_stimuli;
 use std::alloc::{AllocError, Global};
 use vital_base::{Name, Sink};
-use vital_checked::{Checked, Values, default_values};
+use vital_kernel::Network;
 use vital_netlist::{Design, DesignInstance};
-use vital_network::Network;
 use vital_report::Printer;
 use vital_stim::{StimError, Stimuli, read_stim};
+use vital_typed_cells::{Checked, Values, default_values};
 use vital_words::Sim;
 
 /// What `sim` is asked for: its job, with the name and the text of the stimulus file.

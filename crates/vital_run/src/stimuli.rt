@@ -11,7 +11,7 @@ use crate::network_run::run_network;
 use crate::status::Status;
 use std::alloc::Global;
 use vital_base::{Name, Sink, Time};
-use vital_network::Network;
+use vital_kernel::Network;
 use vital_report::{Line, Printer, StimulusWhy};
 use vital_stim::{StimError, StimFault, StimWhy, Stimuli, read_stim};
 

@@ -44,7 +44,7 @@ use Rattle.vital_typed_cells.proofs.Operands.{IsIn, IsPackaged}
 use Rattle.vital_typed_cells.proofs.Seen.{Before, Declares, IfPackaged, site_at}
 use Rattle.vital_typed_cells.proofs.Signals.{IsObject, IsSignal}
 use Rattle.vital_typed_cells.proofs.Tests.{one-true, other-true}
-use Rattle.vital_typed_cells.proofs.Values.{AsksDelay, constant-asks, delay-asked, level-asked, time-asked}
+use Rattle.vital_typed_cells.proofs.ValueTrees.{AsksDelay, constant-asks, delay-asked, level-asked, time-asked}
 use Rattle.vital_typed_cells.proofs.Variables.{GivesType, IsKeptVariable, IsVariableOf}
 
 -- ---- what is asked of declarations

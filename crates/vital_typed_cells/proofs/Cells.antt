@@ -43,7 +43,7 @@ use Rattle.vital_typed_cells.proofs.Lists.{all-both, of-mapped}
 use Rattle.vital_typed_cells.proofs.PackageSound.{packages-sound}
 use Rattle.vital_typed_cells.proofs.ProcessSections.{SoundSections, processes-sound}
 use Rattle.vital_typed_cells.proofs.Tests.{both-true, first-true, second-true}
-use Rattle.vital_typed_cells.proofs.Values.{AllTold}
+use Rattle.vital_typed_cells.proofs.ValueTrees.{AllTold}
 use Rattle.vital_typed_cells.proofs.ValueScopes.{own_constants}
 use Rattle.vital_typed_cells.proofs.Views.{IsGood, goods}
 use Rattle.vital_typed_cells.proofs.WiresSound.{IsJoined, wires-sound}

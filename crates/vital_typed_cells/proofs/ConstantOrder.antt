@@ -35,7 +35,7 @@ use Rattle.vital_typed_cells.proofs.NamedConstants.{DeclFree, body-free}
 use Rattle.vital_typed_cells.proofs.Packages.{each-kept}
 use Rattle.vital_typed_cells.proofs.Tabled.{body-met}
 use Rattle.vital_typed_cells.proofs.Together.{SeenFrom, last-begun, place_of, placed, seen-or, sited_at, Pair}
-use Rattle.vital_typed_cells.proofs.Values.{AllTold}
+use Rattle.vital_typed_cells.proofs.ValueTrees.{AllTold}
 use Rattle.vital_typed_cells.proofs.ValueScopes.{GoodIn, SeesAt, ValueBefore, own_constants}
 use Rattle.vital_typed_cells.proofs.Views.{IsGood}
 

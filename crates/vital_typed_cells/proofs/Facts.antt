@@ -41,7 +41,7 @@ use Rattle.vital_typed_cells.proofs.RegionLimits.{RegionShort}
 use Rattle.vital_typed_cells.proofs.Seen.{site_at}
 use Rattle.vital_typed_cells.proofs.TablesKept.{tables-kept}
 use Rattle.vital_typed_cells.proofs.Together.{Pair, declared-pairs, pairs}
-use Rattle.vital_typed_cells.proofs.Values.{AllTold, delays-given, levels-given, times-given}
+use Rattle.vital_typed_cells.proofs.ValueTrees.{AllTold, delays-given, levels-given, times-given}
 use Rattle.vital_typed_cells.proofs.Variables.{IsKeptVariable, variables-kept}
 
 -- ---- clauses that are met

@@ -65,7 +65,7 @@ pub mod Signals
 pub mod Together
 pub mod Variables
 pub mod Constants
-pub mod Values
+pub mod ValueTrees
 pub mod Worth
 pub mod Regions
 pub mod Lookups
@@ -116,3 +116,5 @@ pub mod StateParts
 pub mod StateFits
 pub mod BehindNames
 pub mod StateStatements
+mod VerdictLemmas
+mod FitLemmas

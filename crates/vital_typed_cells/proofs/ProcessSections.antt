@@ -43,7 +43,7 @@ use Rattle.vital_typed_cells.proofs.StateStatements.{layer-sound}
 use Rattle.vital_typed_cells.proofs.StatementTables.{FreeNode, statement-reads, statement-tables}
 use Rattle.vital_typed_cells.proofs.Statements.{SoundState, layer-call, sections-sound, statements-known, stmt-parts}
 use Rattle.vital_typed_cells.proofs.Uses.{AllFit, Fits}
-use Rattle.vital_typed_cells.proofs.Values.{AllTold}
+use Rattle.vital_typed_cells.proofs.ValueTrees.{AllTold}
 use Rattle.vital_typed_cells.proofs.Views.{HasStatementNames, IsGood, goods, process-scopes, view}
 
 abbrev pub actuals : Cell → Process → ActualScope

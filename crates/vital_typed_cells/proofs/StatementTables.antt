@@ -29,7 +29,7 @@ use Rattle.vital_typed_cells.proofs.Seen.{Before, Declares, meaning-has, site_at
 use Rattle.vital_typed_cells.proofs.Tabled.{body-met}
 use Rattle.vital_typed_cells.proofs.TruthTables.{Reads, nodes-tables}
 use Rattle.vital_typed_cells.proofs.Uses.{Fits}
-use Rattle.vital_typed_cells.proofs.Values.{AllTold}
+use Rattle.vital_typed_cells.proofs.ValueTrees.{AllTold}
 use Rattle.vital_typed_cells.proofs.Views.{IsGood, own-constants-of, view}
 
 -- What the statements of a process see of constants.

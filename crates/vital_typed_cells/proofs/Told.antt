@@ -1,6 +1,6 @@
 -- What is told of the outcomes of expressions.
 use Rattle.vital_typed_cells.proofs.ToldNodes.{expression-told}
-use Rattle.vital_typed_cells.proofs.Values.{AllTold}
+use Rattle.vital_typed_cells.proofs.ValueTrees.{AllTold}
 
 pub all-told : AllTold
 all-told = record {

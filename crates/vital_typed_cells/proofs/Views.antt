@@ -52,7 +52,7 @@ use Rattle.vital_typed_cells.proofs.Operands.{IsPackaged, statement-scope}
 use Rattle.vital_typed_cells.proofs.Seen.{IfPackaged, site_at}
 use Rattle.vital_typed_cells.proofs.Signals.{IsObject, IsSignal, ports-kept, signals-kept}
 use Rattle.vital_typed_cells.proofs.Tabled.{body-met, processes-met}
-use Rattle.vital_typed_cells.proofs.Values.{AllTold}
+use Rattle.vital_typed_cells.proofs.ValueTrees.{AllTold}
 
 -- ---- constants of packages
 

@@ -40,7 +40,7 @@ use Rattle.vital_typed_cells.proofs.Readings.{SoundDelay, SoundReading, SoundTim
 use Rattle.vital_typed_cells.proofs.ToldNodes.{expression-told}
 use Rattle.vital_typed_cells.specs.Named.{is_package_delay, is_package_level, is_package_time, is_package_truth}
 use Rattle.vital_typed_cells.specs.Scopes.{of_packages, scope_of}
-use Rattle.vital_typed_cells.proofs.Values.{AsksDelay, AsksFor, delay-asked, level-asked, time-asked}
+use Rattle.vital_typed_cells.proofs.ValueTrees.{AsksDelay, AsksFor, delay-asked, level-asked, time-asked}
 
 -- ---- values of types
 

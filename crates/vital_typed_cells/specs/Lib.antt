@@ -30,3 +30,5 @@ pub mod Scopes
 pub mod SoundDeclarations
 pub mod SoundSections
 pub mod Sound
+pub mod Answers
+pub mod Fits

@@ -1,8 +1,8 @@
 use Rattle.std.proofs.Common.{sym, subst}
 use Rattle.vital_cell.specs.Short.{HasShort}
-use Rattle.vital_cell.proofs.PutLemmas.{all-made}
+use Rattle.vital_cell.proofs.CellPutLemmas.{all-made}
 use Rattle.vital_cell.proofs.ShortLemmas.{cell-has-short}
-use Rattle.vital_steps.specs.Scopes.{lent}
+use Rattle.vital_cell.specs.Scopes.{lent}
 use Rattle.vital_cell.proofs.cells.all_processes.Goals as goal
 
 pub put_wires-requires : goal.put_wires-requires

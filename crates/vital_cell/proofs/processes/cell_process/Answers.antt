@@ -1,7 +1,7 @@
 use Rattle.std.proofs.Common.{sym, subst}
 use Rattle.vital_cell.specs.Compiled.{IsSoundIn, values_in}
-use Rattle.vital_cell.proofs.ProcessLemmas.{sound-in-values}
-use Rattle.vital_steps.specs.Scopes.{Scope}
+use Rattle.vital_cell.proofs.CellProcessLemmas.{sound-in-values}
+use Rattle.vital_cell.specs.Scopes.{Scope}
 use Rattle.vital_cell.proofs.processes.cell_process.Goals as goal
 
 pub plain_process-requires-clause-sound : goal.plain_process-requires-clause-sound

@@ -1,7 +1,7 @@
 use Rattle.std.proofs.Common.{sym, subst}
 use Rattle.vital_cell.specs.Compiled.{IsMadeProcess, IsSoundIn, with_variables}
 use Rattle.vital_cell.proofs.ScopeLemmas.{none-own}
-use Rattle.vital_steps.specs.Scopes.{Scope, lent}
+use Rattle.vital_cell.specs.Scopes.{Scope, lent}
 use Rattle.vital_cell.proofs.processes.plain_process.Goals as goal
 
 pub process_in-requires-clause-sound : goal.process_in-requires-clause-sound

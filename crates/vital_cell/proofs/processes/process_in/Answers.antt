@@ -1,6 +1,6 @@
 use Rattle.std.proofs.Common.{refl}
 use Rattle.vital_cell.proofs.StepLemmas.{process-is}
-use Rattle.vital_steps.specs.Scopes.{lent}
+use Rattle.vital_cell.specs.Scopes.{lent}
 use Rattle.vital_cell.proofs.processes.process_in.Goals as goal
 
 pub returns-clause-is : goal.returns-clause-is

@@ -3,10 +3,10 @@ use Rattle.vital_cell.specs.Compiled.{with_variables}
 use Rattle.vital_objects.specs.declared.variable.Variable.{Variable}
 use Rattle.vital_sections.specs.declared.timing_check.TimingCheck.{TimingCheck}
 use Rattle.vital_typed_cells.specs.SoundSections.{are_sound_sections}
-use Rattle.vital_steps.specs.Scopes.{lent}
-use Rattle.vital_steps.specs.Sound.{has_state_table, statement_tests}
-use Rattle.vital_steps.specs.Steps.{AreSteps}
-use Rattle.vital_steps.specs.Values.{AreFirst}
+use Rattle.vital_cell.specs.Scopes.{lent}
+use Rattle.vital_cell.specs.Sound.{has_state_table, statement_tests}
+use Rattle.vital_cell.specs.Steps.{AreSteps}
+use Rattle.vital_cell.specs.Values.{AreFirst}
 use Rattle.vital_cell.proofs.processes.process_made.Goals as goal
 
 pub process_steps-requires-clause-sound : goal.process_steps-requires-clause-sound

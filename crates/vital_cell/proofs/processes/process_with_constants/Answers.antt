@@ -1,13 +1,13 @@
 use Rattle.std.proofs.Common.{List, length, map, take, refl, sym, ◌∙◌, ap, subst}
 use Rattle.std.specs.Prelude.{slice_get}
 use Rattle.vital_cell.specs.Compiled.{IsMadeProcess, IsSoundIn, values_in, with_variables}
-use Rattle.vital_cell.proofs.ProcessLemmas.{sound-in-values}
+use Rattle.vital_cell.proofs.CellProcessLemmas.{sound-in-values}
 use Rattle.vital_cell.proofs.ScopeLemmas.{front-long, names-behind, own-worths, values-made}
-use Rattle.vital_cell.proofs.ValueLemmas.{process-sound-in}
+use Rattle.vital_cell.proofs.CellValueLemmas.{process-sound-in}
 use Rattle.vital_execution.specs.Environments.{NamedWorth, cell_constants}
 use Rattle.vital_objects.specs.declared.constant.Constant.{Constant}
-use Rattle.vital_steps.specs.Scopes.{Scope, lent, named_worths}
-use Rattle.vital_steps.specs.Values.{AreSoundIn, with_constants}
+use Rattle.vital_cell.specs.Scopes.{Scope, lent, named_worths}
+use Rattle.vital_cell.specs.Values.{AreSoundIn, with_constants}
 use Rattle.vital_cell.proofs.processes.process_with_constants.Goals as goal
 
 pub put_worths-requires-clause-names : goal.put_worths-requires-clause-names

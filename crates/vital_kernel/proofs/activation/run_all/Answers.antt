@@ -6,7 +6,7 @@ use Rattle.vital_kernel.proofs.Activations.{ToRun, first_runs, one_ran}
 use Rattle.vital_kernel.proofs.Keeping.{keeps_none, keeps_then}
 use Rattle.vital_kernel.proofs.Steps.{drop_at, some_at}
 use Rattle.vital_kernel.proofs.Texts.{left_all, left_none, on_err_of, part_failed}
-use Rattle.vital_network.specs.Networks.{NetProcess, Network, processes}
+use Rattle.vital_kernel.specs.Networks.{NetProcess, Network, processes}
 use Rattle.vital_kernel.proofs.activation.run_all.Goals as goal
 
 pub loop-process-init : goal.loop-process-init

@@ -3,8 +3,8 @@ use Rattle.std.specs.Prelude.{All, slice_get}
 use Rattle.vital_kernel.proofs.Activating.{activates_one, can_run_on, cell_is, drivers_fit, instance_there, ran}
 use Rattle.vital_kernel.proofs.Steps.{if_some_at}
 use Rattle.vital_machine.specs.Fits.{EffectIsOfCell, EndsInTime}
-use Rattle.vital_network.specs.DesignNetworks.{driver_count}
-use Rattle.vital_network.specs.Networks.{NetCell, NetProcess, Network, lent_cell, processes}
+use Rattle.vital_kernel.specs.DesignNetworks.{driver_count}
+use Rattle.vital_kernel.specs.Networks.{NetCell, NetProcess, Network, lent_cell, processes}
 use Rattle.vital_typed_cells.specs.Sound.{bit_count}
 use Rattle.vital_kernel.proofs.activation.run_process.Goals as goal
 

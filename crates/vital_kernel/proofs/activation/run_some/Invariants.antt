@@ -4,7 +4,7 @@ use Rattle.std.specs.Prelude.{slice_get}
 use Rattle.vital_kernel.specs.Activations.{CanRun, KeepsValues, from_state, state_of, text_in}
 use Rattle.vital_kernel.specs.Cycles.{all_activated}
 use Rattle.vital_kernel.proofs.Activations.{ToRun}
-use Rattle.vital_network.specs.Networks.{processes}
+use Rattle.vital_kernel.specs.Networks.{processes}
 use Rattle.vital_kernel.proofs.activation.run_some.Given as goal
 
 abbrev pub invariant-loop-process : goal.invariant-loop-process

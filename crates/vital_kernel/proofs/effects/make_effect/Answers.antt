@@ -6,7 +6,7 @@ use Rattle.vital_kernel.proofs.Keeping.{keeps_assigned, keeps_none}
 use Rattle.vital_kernel.proofs.Texts.{part_breaks, part_stops, printed_none}
 use Rattle.vital_machine.specs.declared.effect.Effect.{Effect}
 use Rattle.vital_machine.specs.declared.effect.Effect.TheVariants as effect
-use Rattle.vital_network.specs.Networks.{lent_cell}
+use Rattle.vital_kernel.specs.Networks.{lent_cell}
 use Rattle.vital_report.specs.Lines.{bytes_of, glitch, violation}
 use Rattle.vital_report.specs.Reporters.{Printed, Stopped}
 use Rattle.vital_kernel.proofs.effects.make_effect.Goals as goal

@@ -4,14 +4,14 @@ use Rattle.vital_agenda.specs.Agendas.{Content}
 use Rattle.vital_agenda.specs.Driver.{Driver}
 use Rattle.vital_kernel.specs.Activations.{message_text}
 use Rattle.vital_kernel.specs.Cycles.{sent}
-use Rattle.vital_kernel.proofs.Cells.{all_at}
+use Rattle.vital_kernel.proofs.ProcessCells.{all_at}
 use Rattle.vital_kernel.proofs.EffectLemmas.{content_is}
 use Rattle.vital_kernel.proofs.Keeping.{keeps_none, keeps_then}
 use Rattle.vital_kernel.proofs.Steps.{fold_at, fold_none, text_at, text_none}
 use Rattle.vital_kernel.proofs.Texts.{Left, left_all, left_less, left_none, part_failed}
 use Rattle.vital_machine.specs.Fits.{EffectIsOfCell, EndsInTime}
-use Rattle.vital_network.specs.DesignNetworks.{driver_count}
-use Rattle.vital_network.specs.Networks.{lent_cell}
+use Rattle.vital_kernel.specs.DesignNetworks.{driver_count}
+use Rattle.vital_kernel.specs.Networks.{lent_cell}
 use Rattle.vital_report.specs.Reporters.{Printed}
 use Rattle.vital_typed_cells.specs.Sound.{bit_count}
 use Rattle.vital_kernel.proofs.effects.make_effects.Goals as goal

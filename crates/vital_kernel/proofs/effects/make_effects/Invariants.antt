@@ -3,7 +3,7 @@ use Rattle.std.specs.List.{flat_map, fold}
 use Rattle.vital_kernel.specs.Activations.{KeepsValues, message_text}
 use Rattle.vital_kernel.specs.Cycles.{sent}
 use Rattle.vital_kernel.proofs.Texts.{Left}
-use Rattle.vital_network.specs.Networks.{lent_cell}
+use Rattle.vital_kernel.specs.Networks.{lent_cell}
 use Rattle.vital_kernel.proofs.effects.make_effects.Given as goal
 
 abbrev pub invariant-loop-number : goal.invariant-loop-number

@@ -2,8 +2,8 @@ use Rattle.std.proofs.Common.{◌≡◌, ℕ, ◌<◌, ◌^◌, List, length, ma
 use Rattle.std.proofs.lemmas.List.{length-map}
 use Rattle.vital_logic.specs.declared.level.Level.{Level}
 use Rattle.vital_netlist.specs.declared.design_lists.DesignDriver.{DesignDriver}
-use Rattle.vital_network.specs.Networks.{all_drivers}
-use Rattle.vital_network.specs.declared.network.NetSignal.{NetSignal}
+use Rattle.vital_kernel.specs.Networks.{all_drivers}
+use Rattle.vital_kernel.specs.declared.network.NetSignal.{NetSignal}
 use Rattle.vital_signals.specs.SignalStates.{first_signals}
 use Rattle.std.specs.Prelude.{IfOk}
 use Rattle.vital_kernel.proofs.CycleLemmas.{on_ok_always}

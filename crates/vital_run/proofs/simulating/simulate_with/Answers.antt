@@ -2,8 +2,8 @@ use Rattle.std.proofs.Common.{◌≡◌, ◌<◌, List, length, map, refl, ap, s
 use Rattle.std.proofs.lemmas.List.Elements.{All-weaker}
 use Rattle.std.specs.Borrow.{Bor}
 use Rattle.vital_base.specs.declared.ports.PortBit.{PortBit}
-use Rattle.vital_network.specs.DesignNetworks.{network}
-use Rattle.vital_network.specs.Networks.{Network}
+use Rattle.vital_kernel.specs.DesignNetworks.{network}
+use Rattle.vital_kernel.specs.Networks.{Network}
 use Rattle.vital_stim.specs.Stimuli.{Fits}
 use Rattle.vital_stim.specs.declared.stimuli.StimLine.{StimLine}
 use Rattle.vital_timing.specs.declared.delay.Delay.{Delay}

@@ -1,7 +1,7 @@
 use Rattle.std.proofs.Common.{◌≡◌, map, take}
 use Rattle.std.specs.Prelude.{All}
-use Rattle.vital_checked.specs.Answers.{default_values}
-use Rattle.vital_checked.specs.Fits.{FitsCell}
+use Rattle.vital_typed_cells.specs.Answers.{default_values}
+use Rattle.vital_typed_cells.specs.Fits.{FitsCell}
 use Rattle.vital_run.proofs.simulating.values_of_cells.Given as goal
 
 abbrev pub invariant-loop-cell : goal.invariant-loop-cell

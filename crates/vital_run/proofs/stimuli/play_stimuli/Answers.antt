@@ -1,4 +1,4 @@
-use Rattle.vital_network.specs.PortNetworks.{port_network}
+use Rattle.vital_kernel.specs.PortNetworks.{port_network}
 use Rattle.vital_run.specs.Runs.{IsRunAnswer}
 use Rattle.vital_run.specs.Stimuli.{IsStimuliAnswer}
 use Rattle.vital_run.proofs.Driven.{ports_are_driven}

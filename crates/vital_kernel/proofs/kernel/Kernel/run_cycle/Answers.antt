@@ -15,10 +15,10 @@ use Rattle.vital_kernel.proofs.Handed.{Handed, can_hand, handed}
 use Rattle.vital_kernel.proofs.Handing.{left_lower}
 use Rattle.vital_kernel.proofs.KernelLemmas.{can_run, kept_parts, next_parts}
 use Rattle.vital_kernel.proofs.Texts.{Left, left_all, left_breaks, on_err_of, part_breaks, part_last, part_stops, stopped_within}
-use Rattle.vital_processes.specs.Triggered.{ListenerState, triggered_by}
+use Rattle.vital_kernel.specs.Triggered.{ListenerState, triggered_by}
 use Rattle.vital_netlist.specs.declared.design_lists.DesignDriver.{DesignDriver}
-use Rattle.vital_network.specs.Networks.{all_drivers, processes}
-use Rattle.vital_network.specs.declared.network.NetSignal.{NetSignal}
+use Rattle.vital_kernel.specs.Networks.{all_drivers, processes}
+use Rattle.vital_kernel.specs.declared.network.NetSignal.{NetSignal}
 use Rattle.vital_report.specs.Reporters.{Printed, PrintsPart, Stopped}
 use Rattle.vital_signals.specs.Lists.{AreRising}
 use Rattle.vital_signals.specs.SignalStates.{SignalState}

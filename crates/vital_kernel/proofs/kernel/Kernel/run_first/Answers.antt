@@ -11,7 +11,7 @@ use Rattle.vital_kernel.proofs.CycleLemmas.{as_many_signals, on_ok}
 use Rattle.vital_kernel.proofs.FirstLemmas.{inits_told, is_first}
 use Rattle.vital_kernel.proofs.KernelLemmas.{begun_parts, can_run, kept_parts}
 use Rattle.vital_kernel.proofs.Texts.{Left, on_err_of, part_last, part_stops, stopped_within}
-use Rattle.vital_network.specs.declared.network.NetSignal.{NetSignal}
+use Rattle.vital_kernel.specs.declared.network.NetSignal.{NetSignal}
 use Rattle.vital_report.specs.Lines.{bytes_of, text_of}
 use Rattle.vital_report.specs.Reporters.{Printed, PrintsPart, Stopped}
 use Rattle.vital_signals.specs.declared.signal.Signal.{Signal}

@@ -5,8 +5,8 @@ use Rattle.vital_agenda.specs.DueLists.{DueList}
 use Rattle.vital_kernel.specs.Kernels.{Simulation}
 use Rattle.vital_kernel.specs.States.{State}
 use Rattle.vital_kernel.proofs.FirstLemmas.{starts}
-use Rattle.vital_processes.specs.Triggered.{ListenerState}
-use Rattle.vital_processes.specs.Processes.{ProcessStates}
+use Rattle.vital_kernel.specs.Triggered.{ListenerState}
+use Rattle.vital_kernel.specs.Processes.{ProcessStates}
 use Rattle.vital_signals.specs.SignalStates.{AreCurrent, SignalState}
 use Rattle.vital_kernel.proofs.kernel.Kernel.start.Goals as goal
 

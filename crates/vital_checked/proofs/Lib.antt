@@ -1,2 +1,0 @@
-mod VerdictLemmas
-mod FitLemmas

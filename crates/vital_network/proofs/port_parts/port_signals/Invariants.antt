@@ -1,6 +1,0 @@
-use Rattle.std.proofs.Common.{◌≡◌, ◌++◌, map}
-use Rattle.vital_network.specs.PortNetworks.{port_signal}
-use Rattle.vital_network.proofs.port_parts.port_signals.Given as goal
-
-abbrev pub invariant-loop-port : goal.invariant-loop-port
-invariant-loop-port l = l.signals.items ++ map port_signal l.port-iterator.rest.items ≡ map port_signal l.fn.bits.items

@@ -1,6 +1,0 @@
-use Rattle.std.proofs.Common.{take}
-use Rattle.vital_network.proofs.PortsNamed.{AreNamed}
-use Rattle.vital_network.proofs.stimulated.named_ports.Given as goal
-
-abbrev pub invariant-loop-line : goal.invariant-loop-line
-invariant-loop-line l = AreNamed (take l.line-index l.lines) l.ports l.named.items

@@ -1,8 +1,0 @@
-use Rattle.std.proofs.Common.{◌≡◌, map, take}
-use Rattle.std.specs.List.{flat_map}
-use Rattle.vital_processes.specs.Sensitivities.{sensitivities_of}
-use Rattle.vital_network.specs.Networks.{lent_cell}
-use Rattle.vital_processes.proofs.sensitivities.sensitivities_of.Given as goal
-
-abbrev pub invariant-loop-cell : goal.invariant-loop-cell
-invariant-loop-cell l = l.all.items ≡ flat_map sensitivities_of (map lent_cell (take l.cell-index l.cells))

@@ -1,5 +1,0 @@
-use Rattle.vital_steps.proofs.PackageLemmas.{nothing-known}
-use Rattle.vital_steps.proofs.constants.worths_alone.Goals as goal
-
-pub put_packages-requires-clause-bare : goal.put_packages-requires-clause-bare
-put_packages-requires-clause-bare c = nothing-known c.args.no_names.now c.args.no_variables.now c.requires.names c.requires.variables

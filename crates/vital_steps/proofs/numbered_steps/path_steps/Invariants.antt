@@ -1,8 +1,0 @@
-use Rattle.std.proofs.Common.{take}
-use Rattle.std.specs.List.{AllZip}
-use Rattle.vital_steps.specs.Scopes.{lent}
-use Rattle.vital_steps.specs.Steps.{IsPathStep}
-use Rattle.vital_steps.proofs.numbered_steps.path_steps.Given as goal
-
-abbrev pub invariant-loop-path : goal.invariant-loop-path
-invariant-loop-path l = AllZip (IsPathStep (lent l.scope)) (take l.path-index l.paths) l.steps.items

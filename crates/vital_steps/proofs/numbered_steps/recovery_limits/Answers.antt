@@ -1,6 +1,0 @@
-use Rattle.vital_steps.specs.Scopes.{lent}
-use Rattle.vital_steps.proofs.StatementLemmas.{check-active_low}
-use Rattle.vital_steps.proofs.numbered_steps.recovery_limits.Goals as goal
-
-pub numbered_truth-requires : goal.numbered_truth-requires
-numbered_truth-requires c = check-active_low (lent c.args.scope.now) c.args.check.now c.requires
