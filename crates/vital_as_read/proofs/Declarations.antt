@@ -4,7 +4,7 @@ use Rattle.std.proofs.lemmas.List.Elements.{filter_map-append}
 use Rattle.vital_grammar.specs.Grammar.{grammar}
 use Rattle.vital_grammar.specs.RuleNumbers as s
 use Rattle.vital_ll.specs.declared.grammar.Sym.TheVariants.{Token as Word, Rule}
-use Rattle.vital_lex.specs.declared.kinds.Kind.TheVariants as kind
+use Rattle.vital_vhdl_lexemes.specs.declared.kinds.Kind.TheVariants as kind
 use Rattle.vital_lex.specs.declared.token_list.Token.{Token}
 use Rattle.vital_names.specs.Declarations.{Declared, Alias, declared_by, declared_in, identifier_of}
 use Rattle.vital_names.specs.Viewpoints.{is_last}

@@ -2,6 +2,7 @@
 use Rattle.std.proofs.Common.{ℕ, List, Ok, All, sym, ap, subst}
 use Rattle.vital_lex.specs.Outcome.{IsOutcome}
 use Rattle.vital_lex.specs.Pieces.{Lexes}
+use Rattle.vital_vhdl_lexemes.specs.Vhdl.{vhdl}
 use Rattle.vital_lex.specs.declared.token_list.Token.{Token}
 use Rattle.vital_nodes.specs.declared.unit.Role.{Role}
 use Rattle.vital_nodes.specs.declared.unit.Unit.{Unit as Unit'}
@@ -16,7 +17,7 @@ use Rattle.vital_as_read.proofs.Tokens.{tokens_are_sound}
 use Rattle.vital_as_read.proofs.Units.{units_along}
 
 -- the tokens of a lexed text
-lexes : (text : List ℕ) (room : ℕ) (tokens : List Token) → IsOutcome text room (Ok tokens) → Lexes text tokens
+lexes : (text : List ℕ) (room : ℕ) (tokens : List Token) → IsOutcome vhdl text room (Ok tokens) → Lexes vhdl text tokens
 lexes text room tokens (lexemes, reaches, same) = (lexemes, reaches.row, same)
 
 pub file_as_read : WalkLaw → (file : ℕ) (role : Role) (text : List ℕ) (room : ℕ) (read : Units) → IsUnitsOf file role text room read → All IsUnitAsRead read.units

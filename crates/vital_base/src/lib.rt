@@ -4,6 +4,7 @@
 
 mod breach;
 mod bytes;
+mod corner;
 mod failed;
 mod file_shelf;
 mod kind;
@@ -22,6 +23,7 @@ mod write;
 
 pub use breach::{Breach, Breaches, Clause};
 pub use bytes::{Argument, Bytes, BytesOf, Content, Name, Naming, Word};
+pub use corner::Corner;
 pub use failed::Failed;
 pub use file_shelf::FileShelf;
 pub use kind::Kind;

@@ -1,7 +1,7 @@
 -- Declarations, rule by rule as the grammar is printed.
 use Rattle.std.specs.Prelude.{List, [], ◌∷◌}
 use Rattle.vital_ll.specs.declared.grammar.Sym.{Sym}
-use Rattle.vital_lex.specs.declared.kinds.Kind.TheVariants as kind
+use Rattle.vital_vhdl_lexemes.specs.declared.kinds.Kind.TheVariants as kind
 use Rattle.vital_grammar.specs.RuleNumbers.{word, decl, decls, id, attribute_rest, more_ids, sub, default, alias_sub, name, optional_is, generics, ports, optional_id, designator, class, expr}
 
 -- decls = { decl }

@@ -1,7 +1,7 @@
 -- Names, items and expressions, rule by rule as the grammar is printed.
 use Rattle.std.specs.Prelude.{List, [], ◌∷◌}
 use Rattle.vital_ll.specs.declared.grammar.Sym.{Sym}
-use Rattle.vital_lex.specs.declared.kinds.Kind.TheVariants as kind
+use Rattle.vital_vhdl_lexemes.specs.declared.kinds.Kind.TheVariants as kind
 use Rattle.vital_grammar.specs.RuleNumbers.{word, id, suffixes, selected, ticked, items, item, more_items, expr, item_range, item_actual, dir, actual, rel, expr_rest, more_ands, more_ors, more_xors, more_xnors, sum, rel_rest, sign, term, more_terms, factor, more_factors, prim, optional_id, name}
 
 -- name = id suffixes

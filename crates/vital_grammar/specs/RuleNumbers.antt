@@ -1,8 +1,8 @@
 -- The numbers of the rules of the grammar.
 use Rattle.vital_ll.specs.declared.grammar.Sym.{Sym}
 use Rattle.vital_ll.specs.declared.grammar.Sym.TheVariants.{Token, Rule}
-use Rattle.vital_lex.specs.Kinds.{number}
-use Rattle.vital_lex.specs.declared.kinds.Kind.{Kind}
+use Rattle.vital_vhdl_lexemes.specs.Kinds.{number}
+use Rattle.vital_vhdl_lexemes.specs.declared.kinds.Kind.{Kind}
 
 -- a token of this kind
 abbrev pub word : Kind → Sym

@@ -1,7 +1,7 @@
 -- Statements, rule by rule as the grammar is printed.
 use Rattle.std.specs.Prelude.{List, [], ◌∷◌}
 use Rattle.vital_ll.specs.declared.grammar.Sym.{Sym}
-use Rattle.vital_lex.specs.declared.kinds.Kind.TheVariants as kind
+use Rattle.vital_vhdl_lexemes.specs.declared.kinds.Kind.TheVariants as kind
 use Rattle.vital_grammar.specs.RuleNumbers.{word, conc, concs, process, id, conc_rest, labelled, suffixes, conc_end, expr, delay, name, maps, optional_is, decls, optional_id, generic_map, port_map, items, sensitivity, seqs, more_names, seq, seq_end, elsifs, else_part}
 
 -- concs = { conc }

@@ -1,7 +1,7 @@
 -- Units of files, interfaces and subtypes, rule by rule as the grammar is printed.
 use Rattle.std.specs.Prelude.{List, [], ◌∷◌}
 use Rattle.vital_ll.specs.declared.grammar.Sym.{Sym}
-use Rattle.vital_lex.specs.declared.kinds.Kind.TheVariants as kind
+use Rattle.vital_vhdl_lexemes.specs.declared.kinds.Kind.TheVariants as kind
 use Rattle.vital_grammar.specs.RuleNumbers.{word, id, more_ids, file, name, more_names, entity, arch, pack, config, generics, ports, decls, entity_statements, entity_word, optional_id, concs, iface, more_ifaces, iface_class, mode, sub, bus, default, expr, range, dir, arch_word, pack_word, config_word}
 
 -- file = { "library" id { "," id } ";" | "use" name { "," name } ";" | entity | arch | pack | config }

@@ -1,15 +1,6 @@
-pub mod FirstBytes
-pub mod FoundLexemes
 pub mod Limits
-pub mod Numbers
 pub mod Outcomes
-pub mod Quoted
-pub mod Ranges
 pub mod Readings
 pub mod Refusals
 pub mod Rising
-pub mod Separators
 pub mod Steps
-pub mod Tables
-pub mod Underlined
-pub mod WordTables

@@ -1,12 +1,7 @@
-pub mod Bytes
-pub mod Delimiters
-pub mod Finding
-pub mod Forms
-pub mod Kinds
+pub mod Lexicon
 pub mod Nesting
 pub mod Outcome
 pub mod Pieces
 pub mod Places
 pub mod Reading
-pub mod ReservedWords
 pub mod TextPosition

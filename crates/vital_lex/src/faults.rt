@@ -10,7 +10,7 @@ use std::alloc::AllocFailed;
 pub enum Why {
     /// No lexeme begins with this character here.
     Character,
-    /// A string literal or an extended identifier begins, and is not closed.
+    /// What must be closed begins here, as a string or a comment, and is not.
     Unclosed,
 }
 
@@ -21,7 +21,7 @@ pub enum TextFault {
     Fault { offset: u32, why: Why },
     /// The token at the offset is one more than there is room for.
     TooManyTokens { offset: u32 },
-    /// The token at the offset makes the nesting of parentheses, `if` and `block` 65.
+    /// The token at the offset makes the nesting 65.
     TooDeep { offset: u32 },
 }
 

@@ -1,20 +1,14 @@
-//! The lexemes of a VHDL text.
+//! Reading a text piece by piece: its tokens by any lexicon, and its lines and columns.
 #![tactic(auto)]
 
-mod bytes;
-mod delimiters;
-mod ends;
 mod faults;
-mod kinds;
-mod lexemes;
 mod lexer;
+mod lexicon;
 mod text_position;
 mod token_list;
-mod words;
 
 pub use faults::{LexError, TextFault, Why};
-pub use kinds::Kind;
-pub use lexer::{lex_vhdl, one_outcome, tokens_rise};
+pub use lexer::{lex, one_outcome, tokens_rise};
+pub use lexicon::{Found, Lexicon};
 pub use text_position::{TextPosition, line_column};
 pub use token_list::{Token, Tokens};
-pub use words::reserved_words_in_order;

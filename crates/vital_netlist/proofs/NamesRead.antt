@@ -9,6 +9,7 @@ use Rattle.vital_as_read.proofs.Each.{AreSound, each_named}
 use Rattle.vital_as_read.proofs.Tokens.{tokens_are_sound}
 use Rattle.vital_lex.specs.Outcome.{IsOutcome}
 use Rattle.vital_lex.specs.Pieces.{Lexes}
+use Rattle.vital_vhdl_lexemes.specs.Vhdl.{vhdl}
 use Rattle.vital_lex.specs.declared.token_list.Token.{Token}
 use Rattle.vital_library.specs.Units.{archs_among, archs_of, entities, entities_among, units_of}
 use Rattle.vital_names.specs.Declarations.{declared_in}
@@ -53,7 +54,7 @@ unit-formed o ts (u.Pack p) sound x = tt
 unit-formed o ts (u.Config c) sound x = tt
 
 -- the tokens of a lexed text
-lexes : (text : List ℕ) (room : ℕ) (tokens : List Token) → IsOutcome text room (Ok tokens) → Lexes text tokens
+lexes : (text : List ℕ) (room : ℕ) (tokens : List Token) → IsOutcome vhdl text room (Ok tokens) → Lexes vhdl text tokens
 lexes text room tokens (lexemes, reaches, same) = (lexemes, reaches.row, same)
 
 file-formed : (file : ℕ) (role : Role) (text : List ℕ) (room : ℕ) (read : Units) → IsUnitsOf file role text room read → All IsUnitFormed read.units

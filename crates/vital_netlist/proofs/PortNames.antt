@@ -12,8 +12,8 @@ use Rattle.std.proofs.lemmas.Slice.Eq.{bytes_eq-Decides}
 use Rattle.vital_connections.specs.Objects.{Object, index_at, index_from}
 use Rattle.vital_declarations.specs.Numbers.{length_between}
 use Rattle.vital_netlist.specs.Names.{bit_name}
-use Rattle.vital_lex.specs.Bytes.{is_graphic, is_letter_or_digit}
-use Rattle.vital_lex.specs.Forms.{are_underlined, begins, closes, continues, is_extended_identifier}
+use Rattle.vital_vhdl_lexemes.specs.Bytes.{is_graphic, is_letter_or_digit}
+use Rattle.vital_vhdl_lexemes.specs.Forms.{are_underlined, begins, closes, continues, is_extended_identifier}
 use Rattle.vital_naturals.specs.Numerals.{numeral}
 use Rattle.vital_nodes.specs.IdentifierNames.{IsIdentifierName}
 use Rattle.vital_nodes.specs.declared.expr.Direction.{Direction}

@@ -7,7 +7,7 @@ use Rattle.vital_grammar.specs.RuleNumbers as s
 use Rattle.vital_ll.specs.Sentence.{IsTreeOf}
 use Rattle.vital_ll.specs.declared.derivation.Step.{Step}
 use Rattle.vital_ll.specs.declared.grammar.Sym.TheVariants.{Token as Word, Rule}
-use Rattle.vital_lex.specs.declared.kinds.Kind.TheVariants as kind
+use Rattle.vital_vhdl_lexemes.specs.declared.kinds.Kind.TheVariants as kind
 use Rattle.vital_lex.specs.declared.token_list.Token.{Token}
 use Rattle.vital_names.specs.Declarations.{declared_in, identifier_of}
 use Rattle.vital_nodes.specs.declared.identifier.Identifier.{Identifier}

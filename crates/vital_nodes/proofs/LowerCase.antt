@@ -1,7 +1,7 @@
 -- Bytes in lower case, as std folds them.
 use Rattle.std.proofs.Common.{◌≡◌, ℕ, List, [], ◌∷◌, map, refl, ap, ◌∙◌, arith}
 use Rattle.std.specs.Char.{to_ascii_lowercase}
-use Rattle.vital_lex.specs.Bytes.{lower_case}
+use Rattle.vital_vhdl_lexemes.specs.Bytes.{lower_case}
 
 lower_case_is : (b : ℕ) → to_ascii_lowercase b ≡ lower_case b
 lower_case_is b = grind arith

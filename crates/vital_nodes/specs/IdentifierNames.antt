@@ -1,10 +1,10 @@
 -- What identifiers are named (IEEE 1076-1993, 13.3).
 use Rattle.std.specs.Prelude.{◌≡◌, ℕ, ◌==◌, true, if◌then◌else◌, List, map, Option, Some, None, ◌⊎◌}
-use Rattle.vital_lex.specs.Bytes.{lower_case}
-use Rattle.vital_lex.specs.Forms.{is_basic_identifier, is_extended_identifier, kind_in}
-use Rattle.vital_lex.specs.Kinds.{number}
-use Rattle.vital_lex.specs.ReservedWords.{reserved_words}
-use Rattle.vital_lex.specs.declared.kinds.Kind.TheVariants as kind
+use Rattle.vital_vhdl_lexemes.specs.Bytes.{lower_case}
+use Rattle.vital_vhdl_lexemes.specs.Forms.{is_basic_identifier, is_extended_identifier, kind_in}
+use Rattle.vital_vhdl_lexemes.specs.Kinds.{number}
+use Rattle.vital_vhdl_lexemes.specs.ReservedWords.{reserved_words}
+use Rattle.vital_vhdl_lexemes.specs.declared.kinds.Kind.TheVariants as kind
 
 -- a basic identifier without capitals that is no reserved word (13.3.1, 13.9)
 pub record IsBasicName (name : List ℕ) : Type 0 where

@@ -6,7 +6,7 @@ ghost use Rattle.vital_nodes.specs.IdentifierNames.{IsIdentifierName, IsNamedWel
 use std::alloc::{AllocError, Global};
 use std::marker::Model;
 use vital_base::{Name, Place};
-use vital_lex::Kind;
+use vital_vhdl_lexemes::Kind;
 
 const IDENTIFIER: u16 = Kind::Identifier as u16;
 

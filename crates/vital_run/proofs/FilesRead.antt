@@ -5,6 +5,8 @@ use Rattle.std.proofs.lemmas.List.{drop_more}
 use Rattle.std.proofs.lemmas.List.Elements.{All-nil, All-push}
 use Rattle.vital_as_read.specs.Libraries.{IsFromText}
 use Rattle.vital_lex.specs.Outcome.{IsOutcome}
+use Rattle.vital_vhdl_lexemes.specs.LexiconLaws.{vhdl_is_lexicon}
+use Rattle.vital_vhdl_lexemes.specs.Vhdl.{vhdl}
 use Rattle.vital_lex.specs.declared.faults.TextFault.{TextFault}
 use Rattle.vital_lex.specs.declared.faults.TextFault.TheVariants.{Fault, TooManyTokens, TooDeep}
 use Rattle.vital_run.specs.Answer.{◌>>=◌}
@@ -28,10 +30,10 @@ pub record IsRead (sources : List Source) (most i room : ℕ) (front : List Unit
       → (others : Result (List Units) Refusal) × AreRead i room (drop i sources) others × (outcome ≡ with_files front others)
 
 -- a text is refused within it
-pub inside : (text : List ℕ) (room : ℕ) (fault : TextFault) → IsOutcome text room (Err fault) → offset_of fault ≤ length text
+pub inside : (text : List ℕ) (room : ℕ) (fault : TextFault) → IsOutcome vhdl text room (Err fault) → offset_of fault ≤ length text
 inside text room (Fault at why) (lexemes, reaches, stuck, reason) = omega (arith, stuck.inside)
-inside text room (TooManyTokens at) (lexemes, l, start, reaches, next, full) = omega (arith, start, next.lexeme.longest.forward, next.lexeme.longest.within)
-inside text room (TooDeep at) (lexemes, l, start, reaches, next, room_left, deep) = omega (arith, start, next.lexeme.longest.forward, next.lexeme.longest.within)
+inside text room (TooManyTokens at) (lexemes, l, start, reaches, next, full) = let within = vhdl_is_lexicon.lexeme_moves _ text l.start l.kind l.end next.lexeme in omega (arith, start, within.0, within.1)
+inside text room (TooDeep at) (lexemes, l, start, reaches, next, room_left, deep) = let within = vhdl_is_lexicon.lexeme_moves _ text l.start l.kind l.end next.lexeme in omega (arith, start, within.0, within.1)
 
 -- what comes of the sources after the one of this number, where it used so many tokens
 abbrev After : List Source → ℕ → ℕ → ℕ → Result (List Units) Refusal → Type 0

@@ -3,7 +3,7 @@ use Rattle.std.proofs.Common.{◌≡◌, ℕ, ◌==◌, false, true, if◌then�
 use Rattle.vital_grammar.specs.Grammar.{grammar}
 use Rattle.vital_grammar.specs.RuleNumbers
 use Rattle.vital_ll.specs.declared.grammar.Sym.TheVariants.{Token as Word, Rule}
-use Rattle.vital_lex.specs.Bytes.{lower_case}
+use Rattle.vital_vhdl_lexemes.specs.Bytes.{lower_case}
 use Rattle.vital_lex.specs.declared.token_list.Token.{Token}
 use Rattle.vital_nodes.specs.IdentifierNames.{name_of}
 use Rattle.vital_nodes.specs.declared.identifier.Identifier.{Identifier}

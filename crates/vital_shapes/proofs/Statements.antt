@@ -3,7 +3,7 @@ use Rattle.std.proofs.Common.{ℕ, zero, suc, ◌==◌, if◌then◌else◌, Lis
 use Rattle.std.specs.List.{flat_map}
 use Rattle.vital_base.specs.declared.place.Place.{Place}
 use Rattle.vital_grammar.specs.RuleNumbers as s
-use Rattle.vital_lex.specs.declared.kinds.Kind.TheVariants as kind
+use Rattle.vital_vhdl_lexemes.specs.declared.kinds.Kind.TheVariants as kind
 use Rattle.vital_lex.specs.declared.token_list.Token.{Token}
 use Rattle.vital_nodes.specs.Nodes as nodes
 use Rattle.vital_nodes.specs.declared.expr.Reference.{Reference}

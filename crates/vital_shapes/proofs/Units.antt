@@ -3,7 +3,7 @@ use Rattle.std.proofs.Common.{◌≡◌, ℕ, ◌==◌, if◌then◌else◌, Lis
 use Rattle.vital_grammar.specs.Grammar.{grammar}
 use Rattle.vital_grammar.specs.RuleNumbers as s
 use Rattle.vital_ll.specs.declared.grammar.Sym.TheVariants.{Token as Word, Rule}
-use Rattle.vital_lex.specs.declared.kinds.Kind.TheVariants as kind
+use Rattle.vital_vhdl_lexemes.specs.declared.kinds.Kind.TheVariants as kind
 use Rattle.vital_lex.specs.declared.token_list.Token.{Token}
 use Rattle.vital_nodes.specs.Nodes as nodes
 use Rattle.vital_nodes.specs.declared.unit.Unit.TheVariants as u

@@ -2,7 +2,7 @@
 -- a rule is the rest of another one, its reader is told what was read before it, and stands here behind the reader of that.
 use Rattle.std.specs.Prelude.{List, [], ◌∷◌}
 use Rattle.vital_grammar.specs.RuleNumbers as s
-use Rattle.vital_lex.specs.declared.kinds.Kind.TheVariants as kind
+use Rattle.vital_vhdl_lexemes.specs.declared.kinds.Kind.TheVariants as kind
 use Rattle.vital_nodes.specs.declared.identifier.Identifier.{Identifier}
 use Rattle.vital_nodes.specs.declared.expr.Expr.{Expr}
 use Rattle.vital_nodes.specs.declared.expr.Item.{Item}

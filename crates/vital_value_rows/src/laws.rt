@@ -1,19 +1,19 @@
 //! What the definitions of lexemes and grammars say of worked rows: it is proved, and nothing of it runs.
 
 ghost use Rattle.std.specs.Prelude.{◌≡◌, ℕ, List, Result, [], ◌∷◌, codes, map, true, false};
-ghost use Rattle.vital_lex.specs.Bytes.{is_blank, is_graphic, is_letter, lower_case};
-ghost use Rattle.vital_lex.specs.Forms.{word_kind, is_basic_identifier, is_character_literal, is_extended_identifier, is_number, is_separator, is_string_literal};
+ghost use Rattle.vital_vhdl_lexemes.specs.Bytes.{is_blank, is_graphic, is_letter, lower_case};
+ghost use Rattle.vital_vhdl_lexemes.specs.Forms.{word_kind, is_basic_identifier, is_character_literal, is_extended_identifier, is_number, is_separator, is_string_literal};
 ghost use Rattle.vital_lex.specs.Places.{line_of, column_of};
 ghost use Rattle.vital_ll.specs.declared.derivation.Step.{Step};
 ghost use Rattle.vital_ll.specs.Leads.{has_no_left_recursion};
 ghost use Rattle.vital_ll.specs.Readings.{IsReading};
 ghost use Rattle.vital_ll.specs.Example.{example, hidden_recursion, hidden_masks};
 
-use vital_lex::Kind;
 use vital_ll::one_reading;
+use vital_vhdl_lexemes::Kind;
 
 /// What the definitions of lexemes say of some rows.
-#[tactic(auto, unfolding(vital_lex::specs::Forms::word_kind))]
+#[tactic(auto, unfolding(vital_vhdl_lexemes::specs::Forms::word_kind))]
 pub fn definitions_on_rows()
     ensures identifiers { map is_basic_identifier (codes "a_b1" ∷ codes "a__b" ∷ codes "_a" ∷ codes "a_" ∷ codes "1a" ∷ [])
         ≡ true ∷ false ∷ false ∷ false ∷ false ∷ [] }

@@ -3,11 +3,9 @@
 use super::laws::definitions_on_rows;
 use super::words::{Said, bytes_of, line, small, word};
 use std::alloc::{AllocError, Global};
-use vital_lex::{
-    Kind, LexError, TextFault, TextPosition, Token, Tokens, Why, lex_vhdl, line_column,
-    one_outcome, reserved_words_in_order,
-};
+use vital_lex::{LexError, TextFault, TextPosition, Token, Tokens, Why, line_column, one_outcome};
 use vital_row_files::GivenFile;
+use vital_vhdl_lexemes::{Kind, Vhdl, lex_vhdl, reserved_words_in_order};
 
 /// The greatest length of a text.
 const LONGEST: usize = 16_777_216;
@@ -52,7 +50,7 @@ const KINDS: [Kind; 34] = [
 
 /// What a view says of a text.
 pub fn say(alloc: Global, words: &[&str], files: &[GivenFile]) -> Said {
-    one_outcome();
+    one_outcome::<Vhdl>();
     reserved_words_in_order();
     definitions_on_rows();
     let text = bytes_of(files, "vhd");

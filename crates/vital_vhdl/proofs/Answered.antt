@@ -6,6 +6,7 @@ use Rattle.vital_ll.specs.Grammar.{Grammar}
 use Rattle.vital_ll.specs.Readings as list
 use Rattle.vital_ll.specs.Sentence.{IsTreeOf, IsRefusedAt}
 use Rattle.vital_lex.specs.Outcome.{IsOutcome, Gives}
+use Rattle.vital_vhdl_lexemes.specs.Vhdl.{vhdl}
 use Rattle.vital_lex.specs.declared.faults.LexError.{LexError}
 use Rattle.vital_lex.specs.declared.faults.LexError.TheVariants as lex
 use Rattle.vital_lex.specs.declared.faults.TextFault.{TextFault}
@@ -27,12 +28,12 @@ Lexed = Result (List Token) TextFault
 
 -- this is what comes of lexing the text
 abbrev pub OnlyLexed : List ℕ → ℕ → Lexed → Type 0
-OnlyLexed text room lexed = (o : Lexed) → IsOutcome text room o → o ≡ lexed
+OnlyLexed text room lexed = (o : Lexed) → IsOutcome vhdl text room o → o ≡ lexed
 
 -- what a lexer's error says
-pub fault_only : (text : List ℕ) (room : ℕ) (e : LexError) (fault : TextFault) → e ≡ lex.Text fault → ((o : Lexed) → IsOutcome text room o → Gives (Err e) o)
+pub fault_only : (text : List ℕ) (room : ℕ) (e : LexError) (fault : TextFault) → e ≡ lex.Text fault → ((o : Lexed) → IsOutcome vhdl text room o → Gives (Err e) o)
     → OnlyLexed text room (Err fault)
-fault_only text room e fault is only = subst (λ (x : LexError). (o : Lexed) → IsOutcome text room o → Gives (Err x) o) is only
+fault_only text room e fault is only = subst (λ (x : LexError). (o : Lexed) → IsOutcome vhdl text room o → Gives (Err x) o) is only
 
 one_refusal : (g : Grammar) (kinds : List ℕ) (j k : ℕ) → IsRefusedAt g kinds j → IsRefusedAt g kinds k → j ≡ k
 one_refusal g kinds j k p q =
@@ -99,7 +100,7 @@ abbrev pub HasShape : ℕ → List ℕ → List Token → Type 0
 HasShape file text tokens = (tree : List Step) → IsTreeOf grammar (kinds_of tokens) tree → (units : List Unit') × (shape file text tokens tree ≡ Some units)
 
 -- a text with these tokens has one outcome
-one_of_tokens : (file : ℕ) (role : Role) (text : List ℕ) (room : ℕ) (tokens : List Token) → IsOutcome text room (Ok tokens) → OnlyLexed text room (Ok tokens) → HasShape file text tokens
+one_of_tokens : (file : ℕ) (role : Role) (text : List ℕ) (room : ℕ) (tokens : List Token) → IsOutcome vhdl text room (Ok tokens) → OnlyLexed text room (Ok tokens) → HasShape file text tokens
     → (read : Result (List Step) ℕ) → list.IsReading grammar (kinds_of tokens) read → ((other : Result (List Step) ℕ) → list.IsReading grammar (kinds_of tokens) other → other ≡ read)
     → One (Result Units UnitError) (IsReading file role text room)
 one_of_tokens file role text room tokens lexed only_lexed shapes (Ok tree) derived only = let found = shapes tree derived in (
@@ -114,7 +115,7 @@ one_of_tokens file role text room tokens lexed only_lexed shapes (Err k) refused
 )
 
 -- and so has each text, as each list of kinds has one reading
-pub one_of_text : (file : ℕ) (role : Role) (text : List ℕ) (room : ℕ) → One Lexed (IsOutcome text room) → ((tokens : List Token) → HasShape file text tokens)
+pub one_of_text : (file : ℕ) (role : Role) (text : List ℕ) (room : ℕ) → One Lexed (IsOutcome vhdl text room) → ((tokens : List Token) → HasShape file text tokens)
     → ((kinds : List ℕ) → One (Result (List Step) ℕ) (list.IsReading grammar kinds)) → One (Result Units UnitError) (IsReading file role text room)
 one_of_text file role text room (Ok tokens, lexed, only) shapes each =
     let read = each (kinds_of tokens) in one_of_tokens file role text room tokens lexed only (shapes tokens) read.0 read.1 read.2

@@ -1,18 +1,19 @@
 -- What each token of a text is named, if it is an identifier, is well formed.
 use Rattle.std.proofs.Common.{◌≡◌, ℕ, Bool, true, not, ◌&&◌, ◌||◌, eqb, cond, List, [], ◌∷◌, map, Option, Some, None, refl, ap, sym, subst, ◌∙◌, inl, inr, arith}
-use Rattle.std.specs.Prelude.{nat_le, slice_range, All, unwrap_or}
+use Rattle.std.specs.Prelude.{nat_le, slice_range, slice_index_or, All, unwrap_or}
 use Rattle.std.specs.List.{list_all}
 use Rattle.std.specs.Str.{bytes_eq}
 use Rattle.std.proofs.lemmas.Bool.{and_parts, cond_both, leb-true, ne_eqb}
-use Rattle.std.proofs.lemmas.List.Elements.{All-nil, All-push, All-map}
-use Rattle.vital_lex.specs.Bytes.{is_letter, is_letter_or_digit, lower_case}
-use Rattle.vital_lex.specs.Delimiters.{delimiters}
-use Rattle.vital_lex.specs.Forms.{begins, continues, are_underlined, is_basic_identifier, is_extended_identifier, is_number, is_string_literal, is_tick, is_character_literal, takes_tick, kind_in, word_kind, lexeme_kind}
-use Rattle.vital_lex.specs.Kinds.{number}
-use Rattle.vital_lex.specs.Pieces.{Lexeme, Lexes, Row, empty, separator, lexeme, token_of}
-use Rattle.vital_lex.specs.ReservedWords.{reserved_words}
-use Rattle.vital_lex.specs.declared.kinds.Kind.{Kind}
-use Rattle.vital_lex.specs.declared.kinds.Kind.TheVariants as kind
+use Rattle.vital_vhdl_lexemes.specs.Bytes.{is_letter, is_letter_or_digit, lower_case}
+use Rattle.vital_vhdl_lexemes.specs.Delimiters.{delimiters}
+use Rattle.vital_vhdl_lexemes.specs.Forms.{begins, continues, are_underlined, is_basic_identifier, is_extended_identifier, is_number, is_string_literal, is_tick, is_character_literal, takes_tick, kind_in, word_kind, lexeme_kind}
+use Rattle.vital_vhdl_lexemes.specs.Kinds.{number}
+use Rattle.vital_lex.specs.Pieces.{Lexes}
+use Rattle.vital_vhdl_lexemes.specs.Vhdl.{vhdl}
+use Rattle.vital_vhdl_lexemes.proofs.TokenLexemes.{token_lexemes}
+use Rattle.vital_vhdl_lexemes.specs.ReservedWords.{reserved_words}
+use Rattle.vital_vhdl_lexemes.specs.declared.kinds.Kind.{Kind}
+use Rattle.vital_vhdl_lexemes.specs.declared.kinds.Kind.TheVariants as kind
 use Rattle.vital_lex.specs.declared.token_list.Token.{Token}
 use Rattle.vital_nodes.specs.IdentifierNames.{IsBasicName, IsIdentifierName, IsNamedWell, name_of}
 use Rattle.vital_shapes.specs.Reading.{no_token}
@@ -137,17 +138,13 @@ named_lexeme before bytes =
 
 -- ---- texts
 
-named_row : {text : List ℕ} {at : ℕ} {lexemes : List Lexeme} → Row text at lexemes → All (λ (l : Lexeme). HasName text (token_of l)) lexemes
-named_row {text} empty = All-nil (λ (l : Lexeme). HasName text (token_of l))
-named_row (separator row stands) = named_row row
-named_row {text} (lexeme {lexemes = ls} {l = l} row next) =
-    All-push (λ (x : Lexeme). HasName text (token_of x)) ls l (named_row row)
-    (named_lexeme _ (slice_range text l.start l.end) l.kind next.lexeme.kind_is)
-
 -- the tokens of a text have names
-pub names_of_text : (text : List ℕ) (tokens : List Token) → Lexes text tokens → HaveNames text tokens
-names_of_text text tokens lexed =
-    subst (HaveNames text) (sym lexed.2) (All-map (λ (t : Token). HasName text t) token_of lexed.0 (named_row lexed.1))
+pub names_of_text : (text : List ℕ) (tokens : List Token) → Lexes vhdl text tokens → HaveNames text tokens
+names_of_text text tokens lexed = λ i d inside.
+    let t : Token = slice_index_or tokens i d in
+    let this = token_lexemes text tokens lexed i d inside in
+    let bytes = slice_range text t.start t.end in
+    subst (λ (k : ℕ). IsNamedWell k bytes) (sym this.3) (named_lexeme this.0 bytes this.1 this.2)
 
 -- and so has the token past the end, which is no identifier
 pub named_past_end : (text : List ℕ) → HasName text no_token

@@ -3,6 +3,7 @@ use Rattle.std.proofs.Common.{◌≡◌, ℕ, List, Ok, All, AllPairs, sym, ap, 
 use Rattle.vital_base.specs.declared.place.Place.{Place}
 use Rattle.vital_lex.specs.Outcome.{IsOutcome}
 use Rattle.vital_lex.specs.Pieces.{Lexes}
+use Rattle.vital_vhdl_lexemes.specs.Vhdl.{vhdl}
 use Rattle.vital_lex.specs.declared.token_list.Token.{Token}
 use Rattle.vital_nodes.specs.declared.unit.Role.{Role}
 use Rattle.vital_nodes.specs.declared.unit.Unit.{Unit as Unit'}
@@ -31,5 +32,5 @@ pub in_order : (file : ℕ) (role : Role) (text : List ℕ) (room : ℕ) (read :
 in_order file role text room read h stand = subst (λ (us : List Unit'). AllPairs IsNotAfter (places_of_units us)) (units_are h) stand
 
 -- the tokens of a lexed text
-pub lexes : (text : List ℕ) (room : ℕ) (tokens : List Token) → IsOutcome text room (Ok tokens) → Lexes text tokens
+pub lexes : (text : List ℕ) (room : ℕ) (tokens : List Token) → IsOutcome vhdl text room (Ok tokens) → Lexes vhdl text tokens
 lexes text room tokens (lexemes, reaches, same) = (lexemes, reaches.row, same)

@@ -3,6 +3,7 @@ use Rattle.std.specs.Prelude.{◌≡◌, ℕ, List, length, map, slice_index_or,
 use Rattle.vital_ll.specs.declared.derivation.Step.{Step}
 use Rattle.vital_ll.specs.Readings as list
 use Rattle.vital_lex.specs.Outcome.{IsOutcome}
+use Rattle.vital_vhdl_lexemes.specs.Vhdl.{vhdl}
 use Rattle.vital_lex.specs.declared.token_list.Token.{Token}
 use Rattle.vital_base.specs.declared.place.Place.{Place}
 use Rattle.vital_nodes.specs.declared.unit.Role.{Role}
@@ -21,7 +22,7 @@ offset_of text tokens k = slice_index_or (map (λ t. t.start) tokens) k (length 
 -- the text has tokens, the grammar refuses this one, and it stands at the place
 pub record IsRefusedText (file : ℕ) (text : List ℕ) (room : ℕ) (place : Place) : Type 0 where
   pub tokens : List Token
-  pub lexed : IsOutcome text room (Ok tokens)
+  pub lexed : IsOutcome vhdl text room (Ok tokens)
   pub token : ℕ
   pub refused : list.IsReading grammar (kinds_of tokens) (Err token)
   pub place_is : place ≡ place_at file text (offset_of text tokens token)
@@ -29,7 +30,7 @@ pub record IsRefusedText (file : ℕ) (text : List ℕ) (room : ℕ) (place : Pl
 -- the text has tokens, of which there is a tree, and these units are its shape
 pub record IsUnitsOf (file : ℕ) (role : Role) (text : List ℕ) (room : ℕ) (read : Units) : Type 0 where
   pub tokens : List Token
-  pub lexed : IsOutcome text room (Ok tokens)
+  pub lexed : IsOutcome vhdl text room (Ok tokens)
   pub tree : List Step
   pub derived : list.IsReading grammar (kinds_of tokens) (Ok tree)
   pub units : List Unit'
@@ -39,7 +40,7 @@ pub record IsUnitsOf (file : ℕ) (role : Role) (text : List ℕ) (room : ℕ) (
 -- what comes of a file
 abbrev pub IsReading : ℕ → Role → List ℕ → ℕ → Result Units UnitError → Type 0
 IsReading file role text room (Ok read) = IsUnitsOf file role text room read
-IsReading file role text room (Err (error.Lex fault)) = IsOutcome text room (Err fault)
+IsReading file role text room (Err (error.Lex fault)) = IsOutcome vhdl text room (Err fault)
 IsReading file role text room (Err (error.Refused place)) = IsRefusedText file text room place
 IsReading file role text room (Err error.NoMemory) = ⊥
 

@@ -9,6 +9,7 @@ ghost use Rattle.vital_vhdl.specs.declared.read.UnitError.{UnitError};
 
 use vital_lex::{one_outcome, tokens_rise};
 use vital_shapes::{file_is_read, nodes_stand};
+use vital_vhdl_lexemes::Vhdl;
 
 /// Each text has one reading: its units, its first fault as a text, or the place where the grammar refuses it. So what
 /// `read_units` answers has its cause, and each cause its answer: a law, called for its clause.
@@ -17,7 +18,7 @@ pub fn one_reading()
         → (outcome : Result Units UnitError) × IsReading file role text room outcome
         × ((other : Result Units UnitError) → IsReading file role text room other → other ≡ outcome) }
 {
-    one_outcome();
+    one_outcome::<Vhdl>();
     vital_grammar::one_reading();
     file_is_read();
 }
@@ -31,6 +32,6 @@ pub fn units_stand()
     ensures in_order { (file : ℕ) (role : Role) (text : List ℕ) (room : ℕ) (read : Units)
         → IsUnitsOf file role text room read → AllPairs IsNotAfter (places_of_units read.units) }
 {
-    tokens_rise();
+    tokens_rise::<Vhdl>();
     nodes_stand();
 }

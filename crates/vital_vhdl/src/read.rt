@@ -8,6 +8,7 @@ ghost use Rattle.vital_ll.specs.Refusal.{IsRefusal};
 ghost use Rattle.vital_ll.specs.Sentence.{IsTreeOf};
 ghost use Rattle.vital_ll.specs.declared.derivation.Step.{Step};
 ghost use Rattle.vital_shapes.specs.Reading.{kinds_of, place_at};
+ghost use Rattle.vital_vhdl_lexemes.specs.Vhdl.{vhdl};
 ghost use Rattle.vital_shapes.specs.Shapes.{shape};
 ghost use Rattle.vital_vhdl.specs.Cursors.{HaveNames};
 ghost use Rattle.vital_vhdl.specs.Outcomes.{GivesUnits, IsReading, IsRefusedText, IsUnitsOf, offset_of};
@@ -21,10 +22,11 @@ use crate::readers::units::file_units;
 use crate::shape_error::ShapeError;
 use std::alloc::{AllocError, AllocFailed, Global};
 use vital_base::{List, Place};
-use vital_lex::{LexError, TextFault, TextPosition, Token, lex_vhdl};
+use vital_lex::{LexError, TextFault, TextPosition, Token};
 use vital_ll::{ParseError, Rules, Step, Tree, parse};
 use vital_nodes::{Role, Unit, Units};
 use vital_shapes::file_is_read;
+use vital_vhdl_lexemes::lex_vhdl;
 
 /// Why a file has no units.
 #[derive(Clone, Copy, Debug, PartialEq, Eq)]
@@ -133,7 +135,7 @@ pub fn read_units(
     // The units are the shape of the one derivation of the text's tokens.
     ensures read { IfOk result (IsUnitsOf file role text.now room) }
     // A fault of the text is the outcome of lexing it.
-    ensures lexical { (fault : TextFault) → result ≡ Err (UnitError.Lex fault) → IsOutcome text.now room (Err fault) }
+    ensures lexical { (fault : TextFault) → result ≡ Err (UnitError.Lex fault) → IsOutcome vhdl text.now room (Err fault) }
     // A refusal stands at the first token that no file goes on with.
     ensures refused { (place : Place) → result ≡ Err (UnitError.Refused place) → IsRefusedText file text.now room place }
     // Whatever comes of the file is the answer, unless memory runs out.

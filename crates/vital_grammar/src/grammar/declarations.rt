@@ -5,8 +5,8 @@ ghost use Rattle.vital_grammar.specs.DeclarationRules.{declaration_rules};
 ghost use Rattle.vital_grammar.specs.Rows.{rules_in};
 
 use super::Named;
-use vital_lex::Kind;
 use vital_ll::Sym;
+use vital_vhdl_lexemes::Kind;
 
 static RULES: [&[&[Sym]]; 7] = [
     // decls = { decl }

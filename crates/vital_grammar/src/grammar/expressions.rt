@@ -5,8 +5,8 @@ ghost use Rattle.vital_grammar.specs.ExpressionRules.{expression_rules};
 ghost use Rattle.vital_grammar.specs.Rows.{rules_in};
 
 use super::Named;
-use vital_lex::Kind;
 use vital_ll::Sym;
+use vital_vhdl_lexemes::Kind;
 
 static RULES: [&[&[Sym]]; 26] = [
     // name = id suffixes

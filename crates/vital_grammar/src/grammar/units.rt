@@ -5,8 +5,8 @@ ghost use Rattle.vital_grammar.specs.UnitRules.{unit_rules};
 ghost use Rattle.vital_grammar.specs.Rows.{rules_in};
 
 use super::Named;
-use vital_lex::Kind;
 use vital_ll::Sym;
+use vital_vhdl_lexemes::Kind;
 
 static RULES: [&[&[Sym]]; 24] = [
     // file = { "library" id { "," id } ";" | "use" name { "," name } ";" | entity | arch | pack | config }

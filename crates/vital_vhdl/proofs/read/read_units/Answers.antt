@@ -2,6 +2,7 @@ use Rattle.std.proofs.Common.{List, Ok, sym, subst}
 use Rattle.vital_ll.specs.Refusal.{IsRefusal}
 use Rattle.vital_ll.specs.declared.reading.ParseError.TheVariants as parse
 use Rattle.vital_lex.specs.Pieces.{Lexes}
+use Rattle.vital_vhdl_lexemes.specs.Vhdl.{vhdl}
 use Rattle.vital_lex.specs.declared.token_list.Token.{Token}
 use Rattle.vital_grammar.specs.Grammar.{grammar}
 use Rattle.vital_shapes.specs.Reading.{kinds_of}
@@ -10,7 +11,7 @@ use Rattle.vital_vhdl.proofs.IdentifierNames.{names_of_text}
 use Rattle.vital_vhdl.proofs.read.read_units.Goals as goal
 
 pub shaped-requires-clause-names : goal.shaped-requires-clause-names
-shaped-requires-clause-names c = names_of_text c.args.text.now c.as_slice-list.result.now (subst (Lexes c.args.text.now) (sym c.as_slice-list.ensures) c.in-Ok.ensures.lexes)
+shaped-requires-clause-names c = names_of_text c.args.text.now c.as_slice-list.result.now (subst (Lexes vhdl c.args.text.now) (sym c.as_slice-list.ensures) c.in-Ok.ensures.lexes)
 
 pub returns-in-Err-Text-clause-only : goal.returns-in-Err-Text-clause-only
 returns-in-Err-Text-clause-only c =

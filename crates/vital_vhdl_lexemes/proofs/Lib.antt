@@ -1,0 +1,11 @@
+pub mod FirstBytes
+pub mod Found
+pub mod FoundLexemes
+pub mod Numbers
+pub mod Quoted
+pub mod Ranges
+pub mod Separators
+pub mod Tables
+pub mod Underlined
+pub mod WordTables
+pub mod TokenLexemes

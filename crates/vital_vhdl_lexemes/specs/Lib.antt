@@ -1,0 +1,11 @@
+pub mod Bytes
+pub mod Delimiters
+pub mod Finding
+pub mod Forms
+pub mod Kinds
+pub mod LexiconLaws
+pub mod Longest
+pub mod LongestLaws
+pub mod Nesting
+pub mod ReservedWords
+pub mod Vhdl
