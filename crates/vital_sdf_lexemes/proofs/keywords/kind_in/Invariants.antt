@@ -1,0 +1,11 @@
+use Rattle.std.proofs.Common.{◌≡◌, length, map}
+use Rattle.std.specs.Char.{to_ascii_lowercase}
+use Rattle.vital_sdf_lexemes.specs.WordKinds.{kind_in}
+use Rattle.vital_sdf_lexemes.proofs.keywords.kind_in.Given as goal
+
+abbrev pub invariant-loop-table : goal.invariant-loop-table
+invariant-loop-table l =
+    kind_in (map (λ k. (k.0.now, k.1)) l.table) (map to_ascii_lowercase l.word) ≡ kind_in (map (λ k. (k.0.now, k.1)) l.initial.table) (map to_ascii_lowercase l.word)
+
+abbrev pub decreases-loop-table : goal.decreases-loop-table
+decreases-loop-table l = length l.table

@@ -1,0 +1,11 @@
+pub mod Bytes
+pub mod Keywords
+pub mod Kinds
+pub mod Lengths
+pub mod Lexemes
+pub mod Numbers
+pub mod Sdf
+pub mod SdfLaws
+pub mod Separators
+pub mod WordKinds
+pub mod Words
