@@ -1,0 +1,11 @@
+pub mod Reading
+pub mod Headers
+pub mod Values
+pub mod Ports
+pub mod Conditions
+pub mod Entries
+pub mod Cells
+pub mod Files
+pub mod Cursors
+pub mod Reads
+pub mod Outcomes
