@@ -1,0 +1,9 @@
+pub mod DelayLemmas
+pub mod PartLemmas
+pub mod PathKeyLemmas
+pub mod IndexLemmas
+pub mod TargetLemmas
+pub mod InstanceLemmas
+pub mod StateLemmas
+pub mod OutcomeLemmas
+pub mod FitLemmas

@@ -1,0 +1,14 @@
+pub mod Annotations
+pub mod Delays
+pub mod Generics
+pub mod Indexes
+pub mod Instances
+pub mod Names
+pub mod NewDelays
+pub mod Numbers
+pub mod Parts
+pub mod PathKeys
+pub mod Tries
+pub mod GenericNumbers
+pub mod Keyed
+pub mod Outcomes
