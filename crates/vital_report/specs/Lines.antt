@@ -7,7 +7,7 @@ use Rattle.vital_logic.specs.declared.level.Level.{Level}
 use Rattle.vital_logic.specs.Levels.{byte_of}
 use Rattle.vital_report.specs.Fields.{clause_word}
 use Rattle.vital_report.specs.declared.line.Line.{Line}
-use Rattle.vital_report.specs.declared.line.Line.TheVariants.{Version, Init, Event, Glitch, Violation, End, CellLevel1, CellBroken, Instance, Signal, EndOfDesign, RefusedUsage, RefusedLexical, RefusedSyntax, RefusedLimit, RefusedLibrary, RefusedNetlist, RefusedCell, RefusedDelta, RefusedStimulus}
+use Rattle.vital_report.specs.declared.line.Line.TheVariants.{Version, Init, Event, Glitch, Violation, End, CellLevel1, CellBroken, Instance, Signal, EndOfDesign, RefusedUsage, RefusedLexical, RefusedSyntax, RefusedLimit, RefusedLibrary, RefusedNetlist, RefusedCell, RefusedDelta, RefusedStimulus, RefusedSdf, Note}
 use Rattle.vital_report.specs.declared.line.Position.{Position}
 use Rattle.vital_report.specs.declared.line.UsageWhy.{UsageWhy}
 use Rattle.vital_report.specs.declared.line.UsageWhy.TheVariants.{Command, Key, Twice, Value, Missing}
@@ -21,6 +21,10 @@ use Rattle.vital_report.specs.declared.line.LibraryWhy.{LibraryWhy}
 use Rattle.vital_report.specs.declared.line.LibraryWhy.TheVariants.{Duplicate, Entity}
 use Rattle.vital_report.specs.declared.line.NetlistWhy.{NetlistWhy}
 use Rattle.vital_report.specs.declared.line.NetlistWhy.TheVariants as netlist
+use Rattle.vital_report.specs.declared.line.NoteWhy.{NoteWhy}
+use Rattle.vital_report.specs.declared.line.NoteWhy.TheVariants as note_why
+use Rattle.vital_report.specs.declared.line.SdfWhy.{SdfWhy}
+use Rattle.vital_report.specs.declared.line.SdfWhy.TheVariants as sdf_why
 use Rattle.vital_timing_checks.specs.declared.violated.CheckKind.{CheckKind}
 use Rattle.vital_timing_checks.specs.declared.violated.CheckKind.TheVariants.{Hold, Period, Pulse, Recovery, Removal, Setup}
 use Rattle.vital_timing_checks.specs.declared.violated.Violated.{Violated}
@@ -44,6 +48,7 @@ pub data Said : Type 0 where
   instance : (path unit : List ℕ) (is_cell : Bool) → Said
   signal : (name : List ℕ) (is_resolved : Bool) (drivers : ℕ) → Said
   end_of_design : Said
+  note : (why : NoteWhy) (at : Spot) → Said
   refused_usage : (word : ℕ) (why : UsageWhy) → Said
   refused_lexical : (why : LexicalWhy) (at : Spot) → Said
   refused_syntax : (at : Spot) → Said
@@ -51,6 +56,7 @@ pub data Said : Type 0 where
   refused_library : (why : LibraryWhy) (at : Spot) → Said
   refused_netlist : (why : NetlistWhy) (at : Spot) (name : Option (List ℕ)) → Said
   refused_cell : (at : Spot) (clause : Clause) → Said
+  refused_sdf : (why : SdfWhy) (at : Spot) → Said
   refused_delta : (time limit : ℕ) → Said
   refused_stimulus : (why : StimulusWhy) (file : List ℕ) (line : ℕ) → Said
 
@@ -72,6 +78,7 @@ said (CellBroken entity arch clause at) = cell_broken entity.now (option_map (λ
 said (Instance path unit is_cell) = instance path.now unit.now is_cell
 said (Signal name is_resolved drivers) = signal name.now is_resolved drivers
 said EndOfDesign = end_of_design
+said (Note at why) = note why (spot at)
 said (RefusedUsage word why) = refused_usage word why
 said (RefusedLexical at why) = refused_lexical why (spot at)
 said (RefusedSyntax at) = refused_syntax (spot at)
@@ -79,6 +86,7 @@ said (RefusedLimit limit at) = refused_limit limit (spot at)
 said (RefusedLibrary why at) = refused_library why (spot at)
 said (RefusedNetlist why at name) = refused_netlist why (spot at) (option_copied name)
 said (RefusedCell at clause) = refused_cell (spot at) clause
+said (RefusedSdf why at) = refused_sdf why (spot at)
 said (RefusedDelta time limit) = refused_delta time limit
 said (RefusedStimulus why file line) = refused_stimulus why file.now line
 
@@ -110,6 +118,7 @@ is_refusal (RefusedLimit limit at) = true
 is_refusal (RefusedLibrary why at) = true
 is_refusal (RefusedNetlist why at name) = true
 is_refusal (RefusedCell at clause) = true
+is_refusal (RefusedSdf why at) = true
 is_refusal (RefusedDelta time limit) = true
 is_refusal (RefusedStimulus why file line) = true
 is_refusal line = false
@@ -147,7 +156,7 @@ stimulus_word stimulus.Falls = codes "falls"
 stimulus_word stimulus.UnknownPort = codes "unknown-port"
 stimulus_word stimulus.NotInput = codes "not-input"
 
--- Why a VHDL text is no row of lexemes, in a word.
+-- Why a VHDL or SDF text is no row of lexemes, in a word.
 abbrev pub lexical_word : LexicalWhy → List ℕ
 lexical_word Character = codes "character"
 lexical_word Unclosed = codes "unclosed"
@@ -187,6 +196,20 @@ netlist_word netlist.NotStructural = codes "not-structural"
 netlist_word netlist.OutputToInputPort = codes "mode"
 netlist_word netlist.TwoDrivers = codes "two-drivers"
 netlist_word netlist.GenericMap = codes "generic-map"
+
+-- Why an entry of an SDF file changes nothing, or less than it says, in a word.
+abbrev pub note_word : NoteWhy → List ℕ
+note_word note_why.Passed = codes "passed"
+note_word note_why.Port = codes "port"
+note_word note_why.Instance = codes "instance"
+note_word note_why.Generic = codes "generic"
+note_word note_why.Negative = codes "negative"
+
+-- Why an SDF file is refused, in a word.
+abbrev pub sdf_word : SdfWhy → List ℕ
+sdf_word sdf_why.Timescale = codes "timescale"
+sdf_word sdf_why.Divider = codes "divider"
+sdf_word sdf_why.Values = codes "values"
 
 -- A name that there may be, or `-` for none.
 abbrev pub name_word : Option (List ℕ) → List ℕ
@@ -233,6 +256,7 @@ bytes_of (cell_broken entity arch clause at) =
 bytes_of (instance path unit is_cell) = line_of (codes "instance") (path ∷ unit ∷ unit_word is_cell ∷ [])
 bytes_of (signal name is_resolved drivers) = line_of (codes "signal") (name ∷ type_word is_resolved ∷ decimal drivers ∷ [])
 bytes_of end_of_design = line_of (codes "end") []
+bytes_of (note why at) = line_of (codes "note sdf") (spot_fields at ++ note_word why ∷ [])
 bytes_of (refused_usage word why) = line_of (codes "refused usage") (decimal word ∷ usage_word why ∷ [])
 bytes_of (refused_lexical why at) = line_of (codes "refused lexical") (spot_fields at ++ lexical_word why ∷ [])
 bytes_of (refused_syntax at) = line_of (codes "refused syntax") (spot_fields at)
@@ -240,6 +264,7 @@ bytes_of (refused_limit limit at) = line_of (codes "refused limit") (limit_word 
 bytes_of (refused_library why at) = line_of (codes "refused library") (library_word why ∷ spot_fields at)
 bytes_of (refused_netlist why at name) = line_of (codes "refused netlist") (netlist_word why ∷ spot_fields at ++ name_word name ∷ [])
 bytes_of (refused_cell at clause) = line_of (codes "refused netlist") (codes "not-level1" ∷ spot_fields at ++ clause_word clause ∷ [])
+bytes_of (refused_sdf why at) = line_of (codes "refused sdf") (sdf_word why ∷ spot_fields at)
 bytes_of (refused_delta time limit) = line_of (codes "refused delta") (decimal time ∷ decimal limit ∷ [])
 bytes_of (refused_stimulus why file line) =
     line_of (codes "refused stimulus") (stimulus_word why ∷ file ∷ decimal line ∷ [])

@@ -11,7 +11,10 @@ mod reporter;
 mod said;
 mod value;
 
-pub use line::{LexicalWhy, LibraryWhy, Limit, Line, NetlistWhy, Position, StimulusWhy, UsageWhy};
+pub use line::{
+    LexicalWhy, LibraryWhy, Limit, Line, NetlistWhy, NoteWhy, Position, SdfWhy, StimulusWhy,
+    UsageWhy,
+};
 pub use print_error::PrintError;
 pub use printer::Printer;
 pub use reporter::{NoMemory, Reporter};

@@ -1,5 +1,5 @@
 ghost use Rattle.std.specs.Prelude.{◌≡◌};
-ghost use Rattle.vital_report.specs.Lines.{usage_word, stimulus_word, lexical_word, limit_word, library_word, netlist_word};
+ghost use Rattle.vital_report.specs.Lines.{usage_word, stimulus_word, lexical_word, limit_word, library_word, netlist_word, note_word, sdf_word};
 
 use vital_base::{Clause, Name, Time};
 use vital_logic::Level;
@@ -74,17 +74,22 @@ pub enum Line<'a> {
     },
     /// `end`, the last line of a design.
     EndOfDesign,
+    /// `note sdf FILE LINE COLUMN WHY`: the entry of an SDF file at this place changes nothing, or less than it says.
+    Note {
+        at: Position<'a>,
+        why: NoteWhy,
+    },
     /// `refused usage N WHY`: the word with number N, counted from 1, is at fault.
     RefusedUsage {
         word: u64,
         why: UsageWhy,
     },
-    /// `refused lexical FILE LINE COLUMN WHY`: at this place of a VHDL file no lexeme fits.
+    /// `refused lexical FILE LINE COLUMN WHY`: at this place of a VHDL or SDF file no lexeme fits.
     RefusedLexical {
         at: Position<'a>,
         why: LexicalWhy,
     },
-    /// `refused syntax FILE LINE COLUMN`: at this place of a VHDL file the grammar cannot go on.
+    /// `refused syntax FILE LINE COLUMN`: at this place of a VHDL or SDF file the grammar cannot go on.
     RefusedSyntax {
         at: Position<'a>,
     },
@@ -110,6 +115,11 @@ pub enum Line<'a> {
     RefusedCell {
         at: Position<'a>,
         clause: Clause,
+    },
+    /// `refused sdf WHY FILE LINE COLUMN`: what an SDF file says at this place is none of what may stand there.
+    RefusedSdf {
+        why: SdfWhy,
+        at: Position<'a>,
     },
     /// `refused delta TIME LIMIT`: at this time a cycle would begin whose delta number is the limit.
     RefusedDelta {
@@ -198,12 +208,12 @@ impl StimulusWhy {
     }
 }
 
-/// Why a VHDL text is no row of lexemes.
+/// Why a VHDL or SDF text is no row of lexemes.
 #[derive(Clone, Copy, PartialEq, Eq)]
 pub enum LexicalWhy {
     /// No lexeme begins with the byte.
     Character,
-    /// A quotation mark or a backslash begins a string or an extended identifier that has no end.
+    /// A string, an extended identifier or a comment begins that has no end.
     Unclosed,
 }
 
@@ -238,7 +248,7 @@ pub enum Limit {
     Columns,
     /// The count of the paths of a path delay call.
     Paths,
-    /// The worth of a time literal in a cell.
+    /// The worth of a time literal in a cell, or of a delay with the values of SDF files.
     Delay,
     /// The count of the instances of a design.
     Instances,
@@ -288,6 +298,60 @@ impl LibraryWhy {
         match self {
             LibraryWhy::Duplicate => b"duplicate",
             LibraryWhy::Entity => b"entity",
+        }
+    }
+}
+
+/// Why an entry of an SDF file changes nothing, or less than it says (IEEE 1497).
+#[derive(Clone, Copy, PartialEq, Eq)]
+pub enum NoteWhy {
+    /// It is of a kind that is passed over.
+    Passed,
+    /// It is a timing check with a conditional port that does not end with a port.
+    Port,
+    /// There is no such instance of a cell.
+    Instance,
+    /// The instance has no such generic.
+    Generic,
+    /// A result was below 0, and is 0.
+    Negative,
+}
+
+impl NoteWhy {
+    /// The word that is printed for it.
+    pub fn word(self) -> &'static [u8]
+        ensures { result.now ≡ note_word self }
+    {
+        match self {
+            NoteWhy::Passed => b"passed",
+            NoteWhy::Port => b"port",
+            NoteWhy::Instance => b"instance",
+            NoteWhy::Generic => b"generic",
+            NoteWhy::Negative => b"negative",
+        }
+    }
+}
+
+/// Why an SDF file is refused (IEEE 1497).
+#[derive(Clone, Copy, PartialEq, Eq)]
+pub enum SdfWhy {
+    /// A timescale is none of 1, 10 and 100 of a unit.
+    Timescale,
+    /// A divider is neither a point nor a slash.
+    Divider,
+    /// An IOPATH, PORT or INTERCONNECT has no value, or more than 12.
+    Values,
+}
+
+impl SdfWhy {
+    /// The word that is printed for it.
+    pub fn word(self) -> &'static [u8]
+        ensures { result.now ≡ sdf_word self }
+    {
+        match self {
+            SdfWhy::Timescale => b"timescale",
+            SdfWhy::Divider => b"divider",
+            SdfWhy::Values => b"values",
         }
     }
 }

@@ -49,6 +49,9 @@ pub(crate) fn write<K: Sink>(
         Line::Instance { .. } | Line::Signal { .. } | Line::EndOfDesign => {
             write_design(buffer, sink, line)
         }
+        Line::Note { at, why } => {
+            write_fields(buffer, sink, b"note sdf", &(at, fixed(why.word())))
+        }
         _ => write_refusal(buffer, sink, line),
     }
 }
@@ -203,6 +206,9 @@ fn write_refusal<K: Sink>(
         }
         Line::RefusedLibrary { why, at } => {
             write_fields(buffer, sink, b"refused library", &(fixed(why.word()), at))
+        }
+        Line::RefusedSdf { why, at } => {
+            write_fields(buffer, sink, b"refused sdf", &(fixed(why.word()), at))
         }
         Line::RefusedDelta { time, limit } => {
             write_fields(buffer, sink, b"refused delta", &(Field(time), Field(limit)))

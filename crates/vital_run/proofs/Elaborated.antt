@@ -20,6 +20,7 @@ use Rattle.vital_run.specs.Given.{GivesDesignRefusal}
 use Rattle.vital_run.specs.Simulations.{IsSimAnswer}
 use Rattle.vital_run.specs.Stages.{IsSimulatedAnswer}
 use Rattle.vital_run.specs.declared.loading.Source.{Source}
+use Rattle.vital_sdf.specs.declared.group.SdfFile.{SdfFile}
 use Rattle.vital_words.specs.declared.job.NamedFile.{NamedFile}
 use Rattle.vital_words.specs.declared.job.Sim.{Sim}
 
@@ -65,11 +66,11 @@ answer_of_error IsAnswer files top (Err f) (elab.Limit l) h answer a = a ∙ ap 
 -- ---- what is simulated
 
 -- the file and the source of the number that is asked for are given on
-pub answer_of_sim : (sim : Sim) (files : List NamedFile) (sources : List Source) (library : List Units) (file : NamedFile) (source : Source) (text top : List ℕ)
+pub answer_of_sim : (sim : Sim) (files : List NamedFile) (sources : List Source) (delays : List SdfFile) (library : List Units) (file : NamedFile) (source : Source) (text top : List ℕ)
     → slice_get files sim.stim ≡ Some file → slice_get sources sim.stim ≡ Some source → text ≡ source.text → top ≡ sim.top
-    → (answer : Answer) → IsSimulatedAnswer sim files library (slice_get files sim.stim) (slice_get sources sim.stim) answer → IsUnderAnswer (IsSimAnswer sim file.name text) files library top answer
-answer_of_sim sim files sources library file source text top named read same_text same_top answer h =
-    let found = subst (λ (f : Option NamedFile). IsSimulatedAnswer sim files library f (slice_get sources sim.stim) answer) named h in
-    let both = subst (λ (o : Option Source). IsSimulatedAnswer sim files library (Some file) o answer) read found in
-    let of_text = subst (λ (t : List ℕ). IsUnderAnswer (IsSimAnswer sim file.name t) files library sim.top answer) (sym same_text) both in
-    subst (λ (t : List ℕ). IsUnderAnswer (IsSimAnswer sim file.name text) files library t answer) (sym same_top) of_text
+    → (answer : Answer) → IsSimulatedAnswer sim files delays library (slice_get files sim.stim) (slice_get sources sim.stim) answer → IsUnderAnswer (IsSimAnswer sim files delays file.name text) files library top answer
+answer_of_sim sim files sources delays library file source text top named read same_text same_top answer h =
+    let found = subst (λ (f : Option NamedFile). IsSimulatedAnswer sim files delays library f (slice_get sources sim.stim) answer) named h in
+    let both = subst (λ (o : Option Source). IsSimulatedAnswer sim files delays library (Some file) o answer) read found in
+    let of_text = subst (λ (t : List ℕ). IsUnderAnswer (IsSimAnswer sim files delays file.name t) files library sim.top answer) (sym same_text) both in
+    subst (λ (t : List ℕ). IsUnderAnswer (IsSimAnswer sim files delays file.name text) files library t answer) (sym same_top) of_text

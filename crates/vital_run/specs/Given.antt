@@ -1,12 +1,12 @@
 -- How what the calls of the stages return is read.
-use Rattle.std.specs.Prelude.{ℕ, ◌≡◌, ◌≤◌, ◌^◌, List, length, Option, Some, None, Result, Ok, Err}
+use Rattle.std.specs.Prelude.{◌≡◌, ◌≤◌, ◌^◌, ℕ, List, [], ◌∷◌, ◌++◌, length, Option, Some, None, Result, Ok, Err}
+use Rattle.vital_as_read.specs.Libraries.{IsFromText}
 use Rattle.vital_library.specs.declared.error.LibraryError.{LibraryError}
 use Rattle.vital_library.specs.declared.error.LibraryError.TheVariants as library
 use Rattle.vital_netlist.specs.Refusals.{Refusal as NetRefusal}
-use Rattle.vital_nodes.specs.declared.unit.Units.{Units}
 use Rattle.vital_run.specs.Answer.{Answer}
 use Rattle.vital_run.specs.Loading.{too_long}
-use Rattle.vital_run.specs.Refusals.{IsFileRefusal, IsLibraryRefusal}
+use Rattle.vital_run.specs.Refusals.{IsLibraryRefusal}
 use Rattle.vital_run.specs.Designs.{refused_design}
 use Rattle.vital_run.specs.Simulations.{IsSimAnswer}
 use Rattle.vital_run.specs.Trees.{IsTreeAnswer}
@@ -16,10 +16,12 @@ use Rattle.vital_netlist.specs.Designs.{Design}
 use Rattle.vital_run.specs.declared.loading.NotLoaded.{NotLoaded}
 use Rattle.vital_run.specs.declared.loading.NotLoaded.TheVariants as loading
 use Rattle.vital_run.specs.declared.loading.Source.{Source}
+use Rattle.vital_run.specs.declared.reading.ReadFile.{ReadFile}
+use Rattle.vital_run.specs.declared.reading.ReadFile.TheVariants as file
+use Rattle.vital_run.specs.declared.reading.ReadFiles.{ReadFiles}
 use Rattle.vital_run.specs.declared.reading.Unread.{Unread}
 use Rattle.vital_run.specs.declared.reading.Unread.TheVariants as reading
 use Rattle.vital_run.specs.declared.refusal.Refusal.{Refusal}
-use Rattle.vital_vhdl.specs.declared.read.UnitError.{UnitError}
 use Rattle.vital_words.specs.declared.job.NamedFile.{NamedFile}
 
 -- Files were loaded as defined, unless the shelf failed or memory ran out.
@@ -29,18 +31,29 @@ GivesSources (Err (loading.TooLong name)) outcome = outcome ≡ Err (too_long na
 GivesSources (Err loading.ReadFault) outcome = Unit {0}
 GivesSources (Err loading.NoMemory) outcome = Unit {0}
 
--- What came of reading the first of some files is this, unless memory ran out.
-abbrev pub GivesFirst : ℕ → List ℕ → Result Units Unread → Result Units UnitError → Type 0
-GivesFirst number text (Ok units) first = first ≡ Ok units
-GivesFirst number text (Err (reading.Refused refusal)) first =
-    (error : UnitError) × (first ≡ Err error) × IsFileRefusal number text error refusal
-GivesFirst number text (Err reading.NoMemory) first = Unit {0}
+-- What came of reading a file is this, unless memory ran out.
+abbrev pub GivesFile : Result ReadFile Unread → Result ReadFile Refusal → Type 0
+GivesFile (Ok file) outcome = outcome ≡ Ok file
+GivesFile (Err (reading.Refused refusal)) outcome = outcome ≡ Err refusal
+GivesFile (Err reading.NoMemory) outcome = Unit {0}
 
 -- What came of reading files is this, unless memory ran out.
-abbrev pub GivesUnits : Result (List Units) Unread → Result (List Units) Refusal → Type 0
-GivesUnits (Ok units) outcome = outcome ≡ Ok units
-GivesUnits (Err (reading.Refused refusal)) outcome = outcome ≡ Err refusal
-GivesUnits (Err reading.NoMemory) outcome = Unit {0}
+abbrev pub GivesFiles : Result ReadFiles Unread → Result ReadFiles Refusal → Type 0
+GivesFiles (Ok files) outcome = outcome ≡ Ok files
+GivesFiles (Err (reading.Refused refusal)) outcome = outcome ≡ Err refusal
+GivesFiles (Err reading.NoMemory) outcome = Unit {0}
+
+-- Units are those of a text.
+abbrev pub IsReadFromText : ReadFile → Type 0
+IsReadFromText (file.Vhdl units) = IsFromText units
+IsReadFromText (file.Sdf entries) = Unit {0}
+IsReadFromText file.Stimuli = Unit {0}
+
+-- A file behind others.
+abbrev pub behind_files : ReadFiles → ReadFile → ReadFiles
+behind_files others (file.Vhdl units) = record { units = others.units ++ units ∷ []; delays = others.delays }
+behind_files others (file.Sdf entries) = record { units = others.units; delays = others.delays ++ entries ∷ [] }
+behind_files others file.Stimuli = others
 
 -- What a library that is refused is refused with, unless memory ran out.
 abbrev pub GivesRefusal : LibraryError → Option Refusal → Type 0
@@ -55,7 +68,7 @@ GivesDesignRefusal files top None answer = Unit {0}
 -- What is done with a design: it is printed, or simulated.
 abbrev pub IsAimAnswer : Aim → Design → Answer → Type 0
 IsAimAnswer aim.Tree d answer = IsTreeAnswer d answer
-IsAimAnswer (aim.Sim s) d answer = IsSimAnswer s.sim.now s.name.now s.text.now d answer
+IsAimAnswer (aim.Sim s) d answer = IsSimAnswer s.sim.now s.files.now s.delays.now s.name.now s.text.now d answer
 
 -- Its file is no longer than files are, and its end time and limit are in bounds.
 abbrev pub CanAnswer : Aim → Type 0

@@ -6,7 +6,7 @@ use Rattle.vital_report.specs.declared.line.Limit.TheVariants.{File}
 use Rattle.vital_run.specs.Answer.{Answer, ◌>>=◌, refused, not_there}
 use Rattle.vital_run.specs.declared.loading.Source.{Source}
 use Rattle.vital_run.specs.declared.status.Status.{Status}
-use Rattle.vital_run.specs.declared.status.Status.TheVariants.{Done, Found, Syntax, Limit, Library, Netlist, Stimulus}
+use Rattle.vital_run.specs.declared.status.Status.TheVariants.{Done, Found, Syntax, Limit, Library, Netlist, Sdf, Stimulus}
 use Rattle.vital_words.specs.declared.job.Job.{Job}
 use Rattle.vital_words.specs.declared.job.NamedFile.{NamedFile}
 use Rattle.vital_words.specs.declared.refusal.UsageFault.{UsageFault}
@@ -49,6 +49,7 @@ follows_loading Found = true
 follows_loading Syntax = true
 follows_loading Library = true
 follows_loading Netlist = true
+follows_loading Sdf = true
 follows_loading Stimulus = true
 follows_loading other = false
 

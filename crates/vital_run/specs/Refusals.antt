@@ -8,17 +8,23 @@ use Rattle.vital_lex.specs.declared.faults.Why.{Why}
 use Rattle.vital_lex.specs.declared.faults.Why.TheVariants as lexical
 use Rattle.vital_library.specs.declared.error.LibraryError.{LibraryError}
 use Rattle.vital_library.specs.declared.error.LibraryError.TheVariants as library
-use Rattle.vital_report.specs.Lines.{Spot, refused_usage, refused_lexical, refused_syntax, refused_limit, refused_library}
+use Rattle.vital_report.specs.Lines.{Spot, refused_usage, refused_lexical, refused_syntax, refused_limit, refused_library, refused_sdf}
 use Rattle.vital_report.specs.declared.line.LexicalWhy.{LexicalWhy}
 use Rattle.vital_report.specs.declared.line.LexicalWhy.TheVariants.{Character, Unclosed}
 use Rattle.vital_report.specs.declared.line.LibraryWhy.TheVariants.{Duplicate, Entity as NoEntity}
 use Rattle.vital_report.specs.declared.line.Limit.TheVariants.{Tokens, Nesting, Units as UnitsLimit}
+use Rattle.vital_report.specs.declared.line.SdfWhy.{SdfWhy}
+use Rattle.vital_report.specs.declared.line.SdfWhy.TheVariants as printed_sdf
 use Rattle.vital_report.specs.declared.line.UsageWhy.{UsageWhy}
 use Rattle.vital_report.specs.declared.line.UsageWhy.TheVariants.{Command, Key, Twice, Value, Missing}
 use Rattle.vital_run.specs.Answer.{Answer, refused}
 use Rattle.vital_run.specs.declared.refusal.Refusal.{Refusal}
 use Rattle.vital_run.specs.declared.refusal.Refusal.TheVariants as refusal
-use Rattle.vital_run.specs.declared.status.Status.TheVariants.{Usage, Syntax, Limit, Library}
+use Rattle.vital_run.specs.declared.status.Status.TheVariants.{Usage, Syntax, Limit, Library, Sdf}
+use Rattle.vital_sdf.specs.declared.read.SdfError.{SdfError}
+use Rattle.vital_sdf.specs.declared.read.SdfError.TheVariants as sdf_error
+use Rattle.vital_sdf.specs.declared.sdf_fault.SdfFault.{SdfFault}
+use Rattle.vital_sdf.specs.declared.sdf_fault.SdfFault.TheVariants as sdf_fault
 use Rattle.vital_vhdl.specs.declared.read.UnitError.{UnitError}
 use Rattle.vital_vhdl.specs.declared.read.UnitError.TheVariants as unit_error
 use Rattle.vital_words.specs.declared.job.NamedFile.{NamedFile}
@@ -67,6 +73,19 @@ IsFileRefusal number text (unit_error.Lex fault) refused_so = refused_so ≡ tex
 IsFileRefusal number text (unit_error.Refused place) refused_so = refused_so ≡ refusal.Syntax place
 IsFileRefusal number text unit_error.NoMemory refused_so = ⊥
 
+-- Why an SDF file is refused, as it is printed.
+abbrev pub printed_fault : SdfFault → SdfWhy
+printed_fault sdf_fault.Timescale = printed_sdf.Timescale
+printed_fault sdf_fault.Divider = printed_sdf.Divider
+printed_fault sdf_fault.Values = printed_sdf.Values
+
+-- How the SDF file with this number and text is refused that was not read.
+abbrev pub IsSdfRefusal : ℕ → List ℕ → SdfError → Refusal → Type 0
+IsSdfRefusal number text (sdf_error.Lex fault) refused_so = refused_so ≡ text_refusal number text fault
+IsSdfRefusal number text (sdf_error.Refused place) refused_so = refused_so ≡ refusal.Syntax place
+IsSdfRefusal number text (sdf_error.Fault why place) refused_so = refused_so ≡ refusal.Sdf (printed_fault why) place
+IsSdfRefusal number text sdf_error.NoMemory refused_so = ⊥
+
 -- ---- the library
 
 -- How files that are no library are refused.
@@ -88,6 +107,7 @@ abbrev pub place_of : Refusal → Place
 place_of (refusal.Lexical place why) = place
 place_of (refusal.Syntax place) = place
 place_of (refusal.Limit limit place) = place
+place_of (refusal.Sdf why place) = place
 place_of (refusal.Library why place) = place
 
 -- What a refusal is answered.
@@ -95,4 +115,5 @@ abbrev pub refused_at : List NamedFile → Refusal → Answer
 refused_at files (refusal.Lexical place why) = refused (refused_lexical why (spot_of files place)) Syntax
 refused_at files (refusal.Syntax place) = refused (refused_syntax (spot_of files place)) Syntax
 refused_at files (refusal.Limit limit place) = refused (refused_limit limit (spot_of files place)) Limit
+refused_at files (refusal.Sdf why place) = refused (refused_sdf why (spot_of files place)) Sdf
 refused_at files (refusal.Library why place) = refused (refused_library why (spot_of files place)) Library

@@ -15,7 +15,9 @@ use Rattle.vital_run.specs.Simulations.{IsSimAnswer}
 use Rattle.vital_run.specs.Stimuli.{IsTextAnswer}
 use Rattle.vital_run.specs.Trees.{IsTreeAnswer}
 use Rattle.vital_run.specs.declared.loading.Source.{Source}
+use Rattle.vital_run.specs.declared.reading.ReadFiles.{ReadFiles}
 use Rattle.vital_run.specs.declared.refusal.Refusal.{Refusal}
+use Rattle.vital_sdf.specs.declared.group.SdfFile.{SdfFile}
 use Rattle.vital_nodes.specs.declared.unit.Units.{Units}
 use Rattle.vital_words.specs.Jobs.{job}
 use Rattle.vital_words.specs.declared.job.Job.{Job}
@@ -31,37 +33,37 @@ IsPlayAnswer until (Some file) (Some source) answer = IsTextAnswer file.name unt
 IsPlayAnswer until (Some file) None answer = answer ≡ not_there
 IsPlayAnswer until None source answer = answer ≡ not_there
 
--- What `sim` answers to its stimulus file and the library.
-abbrev pub IsSimulatedAnswer : Sim' → List NamedFile → List Units → Option NamedFile → Option Source → Answer → Type 0
-IsSimulatedAnswer sim files library (Some file) (Some source) answer =
-    IsUnderAnswer (IsSimAnswer sim file.name source.text) files library sim.top answer
-IsSimulatedAnswer sim files library (Some file) None answer = answer ≡ not_there
-IsSimulatedAnswer sim files library None source answer = answer ≡ not_there
+-- What `sim` answers to its stimulus file, its SDF files and the library.
+abbrev pub IsSimulatedAnswer : Sim' → List NamedFile → List SdfFile → List Units → Option NamedFile → Option Source → Answer → Type 0
+IsSimulatedAnswer sim files delays library (Some file) (Some source) answer =
+    IsUnderAnswer (IsSimAnswer sim files delays file.name source.text) files library sim.top answer
+IsSimulatedAnswer sim files delays library (Some file) None answer = answer ≡ not_there
+IsSimulatedAnswer sim files delays library None source answer = answer ≡ not_there
 
--- What a task makes of its files and their library.
-abbrev pub IsTaskAnswer : Task → List NamedFile → List Source → List Units → Answer → Type 0
-IsTaskAnswer (Play play) files sources library answer =
+-- What a task makes of its files, of the entries of its SDF files, and of their library.
+abbrev pub IsTaskAnswer : Task → List NamedFile → List Source → List SdfFile → List Units → Answer → Type 0
+IsTaskAnswer (Play play) files sources delays library answer =
     IsPlayAnswer play.until (slice_get files play.stim) (slice_get sources play.stim) answer
-IsTaskAnswer Check files sources library answer = IsCellsAnswer files library answer
-IsTaskAnswer (Tree tree) files sources library answer = IsUnderAnswer IsTreeAnswer files library tree.top answer
-IsTaskAnswer (Sim sim) files sources library answer =
-    IsSimulatedAnswer sim files library (slice_get files sim.stim) (slice_get sources sim.stim) answer
+IsTaskAnswer Check files sources delays library answer = IsCellsAnswer files library answer
+IsTaskAnswer (Tree tree) files sources delays library answer = IsUnderAnswer IsTreeAnswer files library tree.top answer
+IsTaskAnswer (Sim sim) files sources delays library answer =
+    IsSimulatedAnswer sim files delays library (slice_get files sim.stim) (slice_get sources sim.stim) answer
 
 -- What is answered to files that were joined into a library, or refused.
-abbrev pub IsLibraryAnswer : Job → List Source → Result (List Units) LibraryError → Answer → Type 0
-IsLibraryAnswer job sources (Ok library) answer = IsTaskAnswer job.task job.files sources library answer
-IsLibraryAnswer job sources (Err error) answer =
+abbrev pub IsLibraryAnswer : Job → List Source → List SdfFile → Result (List Units) LibraryError → Answer → Type 0
+IsLibraryAnswer job sources delays (Ok library) answer = IsTaskAnswer job.task job.files sources delays library answer
+IsLibraryAnswer job sources delays (Err error) answer =
     (refused_so : Refusal) × IsLibraryRefusal error refused_so × (answer ≡ refused_at job.files refused_so)
 
 -- To files that were read, or refused.
-abbrev pub IsReadAnswer : Job → List Source → Result (List Units) Refusal → Answer → Type 0
-IsReadAnswer job sources (Ok units) answer = IsLibraryAnswer job sources (gathered units) answer
+abbrev pub IsReadAnswer : Job → List Source → Result ReadFiles Refusal → Answer → Type 0
+IsReadAnswer job sources (Ok read) answer = IsLibraryAnswer job sources read.delays (gathered read.units) answer
 IsReadAnswer job sources (Err refused_so) answer = answer ≡ refused_at job.files refused_so
 
--- To files that were loaded, or to their want. All VHDL files of a run have room for 4,194,304 tokens.
+-- To files that were loaded, or to their want. All VHDL and SDF files of a run have room for 4,194,304 tokens.
 abbrev pub IsLoadedAnswer : Job → Result (List Source) Answer → Answer → Type 0
 IsLoadedAnswer job (Ok sources) answer =
-    (read : Result (List Units) Refusal) × AreRead 0 4_194_304 sources read × IsReadAnswer job sources read answer
+    (read : Result ReadFiles Refusal) × AreRead 0 4_194_304 sources read × IsReadAnswer job sources read answer
 IsLoadedAnswer job (Err ends_so) answer = answer ≡ ends_so
 
 -- To a job where these are the files, or to words that ask for none.

@@ -55,6 +55,7 @@ pub fn run<S: Shelf, K: Sink>(
     ensures sink_never_falls { K.faults sink.old ≤ K.faults sink.new }
 {
     one_reading();
+    vital_sdf::one_reading();
     one_first_breach();
     one_judge();
     one_run();

@@ -11,7 +11,7 @@ use crate::status::Status;
 use vital_base::{Place, Sink};
 use vital_library::LibraryError;
 use vital_report::{
-    LexicalWhy, LibraryWhy, Limit, Line, Position, Printer, UsageWhy as PrintedUsage,
+    LexicalWhy, LibraryWhy, Limit, Line, Position, Printer, SdfWhy, UsageWhy as PrintedUsage,
 };
 use vital_words::{NamedFile, UsageFault, UsageWhy};
 
@@ -24,6 +24,8 @@ pub enum Refusal {
     Syntax { place: Place },
     /// The limit is passed at the place.
     Limit { limit: Limit, place: Place },
+    /// What an SDF file says at the place may not stand there.
+    Sdf { why: SdfWhy, place: Place },
     /// The unit at the place does not go with the others.
     Library { why: LibraryWhy, place: Place },
 }
@@ -36,6 +38,7 @@ impl Refusal {
             Refusal::Lexical { place, .. }
             | Refusal::Syntax { place }
             | Refusal::Limit { place, .. }
+            | Refusal::Sdf { place, .. }
             | Refusal::Library { place, .. } => place,
         }
     }
@@ -63,6 +66,10 @@ pub fn refuse_files<K: Sink>(
         Refusal::Limit { limit, .. } => {
             let line = Line::RefusedLimit { limit, at };
             end_with(&line, Status::Limit, printer)
+        }
+        Refusal::Sdf { why, .. } => {
+            let line = Line::RefusedSdf { why, at };
+            end_with(&line, Status::Sdf, printer)
         }
         Refusal::Library { why, .. } => {
             let line = Line::RefusedLibrary { why, at };

@@ -12,7 +12,7 @@ use crate::cells::check_cells;
 use crate::elaborating::{Aim, Asked, elaborate_top};
 use crate::lines::refuse_long;
 use crate::loading::{NotLoaded, Source, load_files};
-use crate::reading::{Unread, read_files};
+use crate::reading::{ReadFiles, Unread, read_files};
 use crate::refusal::{library_refusal, refuse_files};
 use crate::simulating::Simulated;
 use crate::status::Status;
@@ -21,7 +21,8 @@ use std::alloc::Global;
 use vital_base::{List, Shelf, Sink};
 use vital_library::{Library, gather};
 use vital_report::Printer;
-use vital_vhdl::{Units, one_reading, vhdl_rules};
+use vital_sdf::SdfFile;
+use vital_vhdl::{one_reading, vhdl_rules};
 use vital_words::{Job, NamedFile, Sim, Task};
 
 /// Runs a job: its files are loaded, and then come the other stages.
@@ -31,7 +32,7 @@ pub fn run_job<S: Shelf, K: Sink>(
     shelf: &mut S,
     printer: &mut Printer<'_, K>,
 ) -> Status
-    requires few { length job.now.files ≤ 18 }
+    requires few { length job.now.files ≤ 34 }
     requires names_in { NamesIn job.now }
     requires bounded { IsBounded job.now }
     requires goes_on { printer.old.stopped ≡ false }
@@ -54,7 +55,7 @@ fn run_sources<K: Sink>(
     sources: &List<Source>,
     printer: &mut Printer<'_, K>,
 ) -> Status
-    requires few { length sources.now ≤ 18 }
+    requires few { length sources.now ≤ 34 }
     requires within { All (λ source. length source.text ≤ 16_777_216) sources.now }
     requires count { length sources.now ≡ length job.now.files }
     requires names_in { NamesIn job.now }
@@ -67,30 +68,31 @@ fn run_sources<K: Sink>(
         return Status::NoMemory;
     };
     match read_files(alloc, &rules, sources.as_slice()) {
-        Ok(units) => run_units(alloc, job, sources, units, printer),
+        Ok(read) => run_read(alloc, job, sources, read, printer),
         Err(Unread::Refused(refusal)) => refuse_files(job.files.as_slice(), refusal, printer),
         Err(Unread::NoMemory) => Status::NoMemory,
     }
 }
 
 /// Runs a job whose files were read: they are joined into a library, and then comes its task.
-fn run_units<K: Sink>(
+fn run_read<K: Sink>(
     alloc: Global,
     job: &Job,
     sources: &List<Source>,
-    units: List<Units>,
+    read: ReadFiles,
     printer: &mut Printer<'_, K>,
 ) -> Status
-    requires read { All IsFromText units }
+    requires read { All IsFromText read.units }
     requires within { All (λ source. length source.text ≤ 16_777_216) sources.now }
     requires count { length sources.now ≡ length job.now.files }
     requires names_in { NamesIn job.now }
     requires bounded { IsBounded job.now }
     requires goes_on { printer.old.stopped ≡ false }
-    ensures { Stage (IsLibraryAnswer job.now sources.now (gathered units)) result printer.old printer.new }
+    ensures { Stage (IsLibraryAnswer job.now sources.now read.delays (gathered read.units)) result printer.old printer.new }
 {
+    let ReadFiles { units, delays } = read;
     match gather(alloc, units) {
-        Ok(library) => run_task(alloc, job, sources, &library, printer),
+        Ok(library) => run_task(alloc, job, sources, &delays, &library, printer),
         Err(error) => match library_refusal(error) {
             Some(refusal) => refuse_files(job.files.as_slice(), refusal, printer),
             None => Status::NoMemory,
@@ -98,11 +100,12 @@ fn run_units<K: Sink>(
     }
 }
 
-/// Does what a job asks for with its files and their library.
+/// Does what a job asks for with its files, the entries of its SDF files, and their library.
 fn run_task<K: Sink>(
     alloc: Global,
     job: &Job,
     sources: &List<Source>,
+    delays: &List<SdfFile>,
     library: &Library,
     printer: &mut Printer<'_, K>,
 ) -> Status
@@ -112,7 +115,7 @@ fn run_task<K: Sink>(
     requires names_in { NamesIn job.now }
     requires bounded { IsBounded job.now }
     requires goes_on { printer.old.stopped ≡ false }
-    ensures { Stage (IsTaskAnswer job.now.task job.now.files sources.now library.now) result printer.old printer.new }
+    ensures { Stage (IsTaskAnswer job.now.task job.now.files sources.now delays.now library.now) result printer.old printer.new }
 {
     match &job.task {
         Task::Play(play) => {
@@ -135,17 +138,26 @@ fn run_task<K: Sink>(
         }
         Task::Sim(sim) => {
             let files = job.files.as_slice();
-            run_sim(alloc, sim, files, sources.as_slice(), library, printer)
+            run_sim(
+                alloc,
+                sim,
+                files,
+                sources.as_slice(),
+                delays,
+                library,
+                printer,
+            )
         }
     }
 }
 
-/// Simulates what is asked for in a library with these files.
+/// Simulates what is asked for in a library with these files and the entries of the SDF files among them.
 fn run_sim<K: Sink>(
     alloc: Global,
     sim: &Sim,
     files: &[NamedFile],
     sources: &[Source],
+    delays: &List<SdfFile>,
     library: &Library,
     printer: &mut Printer<'_, K>,
 ) -> Status
@@ -155,13 +167,15 @@ fn run_sim<K: Sink>(
     requires stim { sim.now.stim < length files.now }
     requires bounded { IsBoundedTask (Task.Sim sim.now) }
     requires goes_on { printer.old.stopped ≡ false }
-    ensures { Stage (IsTaskAnswer (Task.Sim sim.now) files.now sources.now library.now) result printer.old printer.new }
+    ensures { Stage (IsTaskAnswer (Task.Sim sim.now) files.now sources.now delays.now library.now) result printer.old printer.new }
 {
     let file = &files[sim.stim];
     let source = &sources[sim.stim];
     let top = sim.top.as_slice();
     let aim = Aim::Sim(Simulated {
         sim,
+        files,
+        delays,
         name: &file.name,
         text: source.text.as_slice(),
     });

@@ -18,6 +18,8 @@ pub enum Status {
     Library,
     /// The design under the top is wrong.
     Netlist,
+    /// An SDF file is wrong.
+    Sdf,
     /// The stimuli are wrong.
     Stimulus,
     /// A cycle would begin whose delta number is the limit.
@@ -43,6 +45,7 @@ impl Status {
             Status::Limit => 4,
             Status::Library => 5,
             Status::Netlist => 6,
+            Status::Sdf => 7,
             Status::Stimulus => 8,
             Status::DeltaLimit => 9,
             Status::ReadFault => 10,

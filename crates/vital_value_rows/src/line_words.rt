@@ -1,6 +1,8 @@
 //! The words for why something is refused.
 
-use vital_report::{LexicalWhy, LibraryWhy, Limit, NetlistWhy, StimulusWhy, UsageWhy};
+use vital_report::{
+    LexicalWhy, LibraryWhy, Limit, NetlistWhy, NoteWhy, SdfWhy, StimulusWhy, UsageWhy,
+};
 
 pub const USAGE: [(&str, UsageWhy); 5] = [
     ("Command", UsageWhy::Command),
@@ -59,6 +61,20 @@ pub const NETLIST: [(&str, NetlistWhy); 13] = [
     ("OutputToInputPort", NetlistWhy::OutputToInputPort),
     ("TwoDrivers", NetlistWhy::TwoDrivers),
     ("GenericMap", NetlistWhy::GenericMap),
+];
+
+pub const NOTES: [(&str, NoteWhy); 5] = [
+    ("Passed", NoteWhy::Passed),
+    ("Port", NoteWhy::Port),
+    ("Instance", NoteWhy::Instance),
+    ("Generic", NoteWhy::Generic),
+    ("Negative", NoteWhy::Negative),
+];
+
+pub const SDF: [(&str, SdfWhy); 3] = [
+    ("Timescale", SdfWhy::Timescale),
+    ("Divider", SdfWhy::Divider),
+    ("Values", SdfWhy::Values),
 ];
 
 /// What a word stands for.

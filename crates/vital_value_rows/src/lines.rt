@@ -1,6 +1,6 @@
 //! Lines as they are printed.
 
-use super::line_words::{LEXICAL, LIBRARY, LIMITS, NETLIST, STIMULUS, USAGE, named};
+use super::line_words::{LEXICAL, LIBRARY, LIMITS, NETLIST, NOTES, SDF, STIMULUS, USAGE, named};
 use super::words::{Said, level, number, small, word};
 use std::alloc::{AllocError, Global};
 use vital_base::{Clause, List, MemSink, Name};
@@ -127,6 +127,22 @@ fn of_files<'a>(told: &Told<'a>) -> Option<Line<'a>> {
     })
 }
 
+/// A line of the entries of an SDF file.
+fn of_delays<'a>(told: &Told<'a>) -> Option<Line<'a>> {
+    let at = told.place()?;
+    Some(match told.word(1) {
+        "note" => Line::Note {
+            why: named(&NOTES, told.word(2))?,
+            at,
+        },
+        "sdf" => Line::RefusedSdf {
+            why: named(&SDF, told.word(2))?,
+            at,
+        },
+        _ => return None,
+    })
+}
+
 /// A refusal of a library or of a design.
 fn of_designs<'a>(told: &Told<'a>) -> Option<Line<'a>> {
     let at = told.place()?;
@@ -162,6 +178,7 @@ fn line_of<'a>(told: &Told<'a>) -> Option<Line<'a>> {
         .or_else(|| of_units(told))
         .or_else(|| of_files(told))
         .or_else(|| of_designs(told))
+        .or_else(|| of_delays(told))
 }
 
 /// A line as it is printed; a flush writes no more.

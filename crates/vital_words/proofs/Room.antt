@@ -13,7 +13,7 @@ use Rattle.vital_words.specs.declared.command.Command.TheVariants.{Play, Check, 
 use Rattle.vital_words.specs.declared.command.KeyRule.{KeyRule}
 use Rattle.vital_words.specs.declared.job.NamedFile.{NamedFile}
 use Rattle.vital_words.specs.declared.key.Key.{Key}
-use Rattle.vital_words.specs.declared.key.Key.TheVariants.{File, Until, Top, Delta, Watch}
+use Rattle.vital_words.specs.declared.key.Key.TheVariants.{File, Until, Top, Corner, Delta, Watch}
 use Rattle.vital_words.specs.declared.refusal.UsageFault.{UsageFault}
 use Rattle.vital_words.specs.declared.refusal.UsageWhy.{UsageWhy}
 use Rattle.vital_words.specs.declared.refusal.UsageWhy.TheVariants as why
@@ -28,6 +28,7 @@ abbrev files_by : Key → ℕ → ℕ
 files_by (File kind) times = times
 files_by Until times = 0
 files_by Top times = 0
+files_by Corner times = 0
 files_by Delta times = 0
 files_by Watch times = 0
 
@@ -40,6 +41,7 @@ files_by-fewer : (key : Key) (m n : ℕ) → m ≤ n → files_by key m ≤ file
 files_by-fewer (File kind) m n le = le
 files_by-fewer Until m n le = omega arith
 files_by-fewer Top m n le = omega arith
+files_by-fewer Corner m n le = omega arith
 files_by-fewer Delta m n le = omega arith
 files_by-fewer Watch m n le = omega arith
 
@@ -48,6 +50,7 @@ files_by-taken : (key : Key) (value : List ℕ) (m n : ℕ) → m < n → count_
 files_by-taken (File kind) value m n lt = omega (arith, lt)
 files_by-taken Until value m n lt = omega arith
 files_by-taken Top value m n lt = omega arith
+files_by-taken Corner value m n lt = omega arith
 files_by-taken Delta value m n lt = omega arith
 files_by-taken Watch value m n lt = omega arith
 
@@ -109,14 +112,14 @@ not_faulty : (o : Option UsageFault) (all_met : Bool) (missing : UsageFault) →
 not_faulty None all_met missing e = refl
 not_faulty (Some fault) all_met missing e = absurd cc
 
-room_of : (command : Command) → room (rules_of command) [] ≤ 18
+room_of : (command : Command) → room (rules_of command) [] ≤ 34
 room_of Play = omega arith
 room_of Check = omega arith
 room_of Tree = omega arith
 room_of Sim = omega arith
 
 -- words of a command that have no fault name few files
-pub few_files : (command : Command) (words : List (List ℕ)) → first_fault (rules_of command) words ≡ None → length (filter_map (file_in (rules_of command)) words) ≤ 18
+pub few_files : (command : Command) (words : List (List ℕ)) → first_fault (rules_of command) words ≡ None → length (filter_map (file_in (rules_of command)) words) ≤ 34
 few_files command words e =
     let none = not_faulty (first_refusal (rules_of command) [] 2 words) (list_all (is_met words) (rules_of command)) (missing words) e in
     omega (arith, within_room (rules_of command) [] 2 words none, room_of command)

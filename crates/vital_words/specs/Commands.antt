@@ -4,9 +4,9 @@ use Rattle.std.specs.Str.{bytes_eq}
 use Rattle.vital_words.specs.declared.command.Command.{Command}
 use Rattle.vital_words.specs.declared.command.Command.TheVariants.{Play, Check, Tree, Sim}
 use Rattle.vital_words.specs.declared.command.KeyRule.{KeyRule}
-use Rattle.vital_words.specs.declared.key.FileKind.TheVariants.{Lib, Net, Stim}
+use Rattle.vital_words.specs.declared.key.FileKind.TheVariants.{Lib, Net, Sdf, Stim}
 use Rattle.vital_words.specs.declared.key.Key.{Key}
-use Rattle.vital_words.specs.declared.key.Key.TheVariants.{File, Until, Top, Delta, Watch}
+use Rattle.vital_words.specs.declared.key.Key.TheVariants.{File, Until, Top, Corner, Delta, Watch}
 
 -- The command that is written so.
 abbrev pub command_named : List ℕ → Option Command
@@ -31,5 +31,5 @@ rules_of Play = required (File Stim) 1 ∷ required Until 1 ∷ []
 rules_of Check = required (File Lib) 16 ∷ []
 rules_of Tree = required (File Lib) 16 ∷ optional (File Net) 1 ∷ required Top 1 ∷ []
 rules_of Sim =
-    required (File Lib) 16 ∷ optional (File Net) 1 ∷ required Top 1 ∷ required (File Stim) 1 ∷ required Until 1 ∷ optional Delta 1
-    ∷ optional Watch 1 ∷ []
+    required (File Lib) 16 ∷ optional (File Net) 1 ∷ optional (File Sdf) 16 ∷ required Top 1 ∷ required (File Stim) 1 ∷ required Until 1
+    ∷ optional Corner 1 ∷ optional Delta 1 ∷ optional Watch 1 ∷ []

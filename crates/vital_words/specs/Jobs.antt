@@ -2,11 +2,13 @@
 use Rattle.std.specs.Prelude.{ℕ, Bool, true, false, List, [], ◌∷◌, position, unwrap_or, Option, Some, None, Result, Ok, Err}
 use Rattle.std.specs.List.{filter_map}
 use Rattle.std.specs.Option.{option_and_then, option_map}
+use Rattle.vital_base.specs.declared.corner.Corner.{Corner}
+use Rattle.vital_base.specs.declared.corner.Corner.TheVariants as corner
 use Rattle.vital_base.specs.declared.watch.Watch.{Watch}
 use Rattle.vital_base.specs.declared.watch.Watch.TheVariants as watch
 use Rattle.vital_identifiers.specs.Identifiers.{folded}
 use Rattle.vital_words.specs.Commands.{command_named, rules_of}
-use Rattle.vital_words.specs.Keys.{◌>>=◌, value_in, value_of, end_time, delta_limit, watch_named}
+use Rattle.vital_words.specs.Keys.{◌>>=◌, value_in, value_of, end_time, corner_named, delta_limit, watch_named}
 use Rattle.vital_words.specs.Refusals.{first_fault, missing}
 use Rattle.vital_words.specs.declared.command.Command.{Command}
 use Rattle.vital_words.specs.declared.command.Command.TheVariants as command
@@ -19,7 +21,7 @@ use Rattle.vital_words.specs.declared.job.Task.{Task}
 use Rattle.vital_words.specs.declared.job.Task.TheVariants as task
 use Rattle.vital_words.specs.declared.job.Tree.{Tree}
 use Rattle.vital_words.specs.declared.key.FileKind.{FileKind}
-use Rattle.vital_words.specs.declared.key.FileKind.TheVariants.{Lib, Net, Stim}
+use Rattle.vital_words.specs.declared.key.FileKind.TheVariants.{Lib, Net, Sdf, Stim}
 use Rattle.vital_words.specs.declared.key.Key.{Key}
 use Rattle.vital_words.specs.declared.key.Key.TheVariants as key
 use Rattle.vital_words.specs.declared.refusal.UsageFault.{UsageFault}
@@ -30,6 +32,7 @@ abbrev pub file_of : Key → List ℕ → Option NamedFile
 file_of (key.File kind) name = Some (record { kind = kind; name = name })
 file_of key.Until value = None
 file_of key.Top value = None
+file_of key.Corner value = None
 file_of key.Delta value = None
 file_of key.Watch value = None
 
@@ -46,6 +49,7 @@ file_in (rule ∷ rules) word = file_or rule.key (value_in rule.key word) (file_
 abbrev pub is_stim_kind : FileKind → Bool
 is_stim_kind Lib = false
 is_stim_kind Net = false
+is_stim_kind Sdf = false
 is_stim_kind Stim = true
 
 -- Is it a stimulus file?
@@ -70,6 +74,10 @@ tree_of words = do
 abbrev pub limit_of : List (List ℕ) → ℕ
 limit_of words = unwrap_or (option_and_then delta_limit (value_of key.Delta words)) 1_000
 
+-- Which values of the files of delays are taken, which are the typical ones where no word says.
+abbrev pub corner_of : List (List ℕ) → Corner
+corner_of words = unwrap_or (option_and_then corner_named (value_of key.Corner words)) corner.Typ
+
 -- The signals that are watched, which are the ports where no word says.
 abbrev pub watch_of : List (List ℕ) → Watch
 watch_of words = unwrap_or (option_and_then watch_named (value_of key.Watch words)) watch.Ports
@@ -81,7 +89,7 @@ sim_of files words = do
   top ← value_of key.Top words
   value ← value_of key.Until words
   until ← end_time value
-  Some (record { stim = stim; top = folded top; until = until; limit = limit_of words; watch = watch_of words })
+  Some (record { stim = stim; top = folded top; until = until; corner = corner_of words; limit = limit_of words; watch = watch_of words })
 
 -- What a command does with these files, which the words after it name.
 abbrev pub task_of : Command → List NamedFile → List (List ℕ) → Option Task

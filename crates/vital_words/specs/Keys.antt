@@ -4,14 +4,16 @@ use Rattle.std.specs.Char.{is_ascii_digit}
 use Rattle.std.specs.List.{list_all, filter_map}
 use Rattle.std.specs.Option.{is_some, option_map}
 use Rattle.std.specs.Str.{bytes_eq}
+use Rattle.vital_base.specs.declared.corner.Corner.{Corner as Corner'}
+use Rattle.vital_base.specs.declared.corner.Corner.TheVariants as corner
 use Rattle.vital_base.specs.declared.watch.Watch.{Watch as Watch'}
 use Rattle.vital_base.specs.declared.watch.Watch.TheVariants as watch
 use Rattle.vital_base.specs.Times.{number_of, unit_named, time_of}
 use Rattle.vital_identifiers.specs.Identifiers.{is_basic_identifier}
 use Rattle.vital_words.specs.declared.key.FileKind.{FileKind}
-use Rattle.vital_words.specs.declared.key.FileKind.TheVariants.{Lib, Net, Stim}
+use Rattle.vital_words.specs.declared.key.FileKind.TheVariants.{Lib, Net, Sdf, Stim}
 use Rattle.vital_words.specs.declared.key.Key.{Key}
-use Rattle.vital_words.specs.declared.key.Key.TheVariants.{File, Until, Top, Delta, Watch}
+use Rattle.vital_words.specs.declared.key.Key.TheVariants.{File, Until, Top, Corner, Delta, Watch}
 
 infixl 10 ◌>>=◌
 abbrev pub ◌>>=◌ : {A B : Type 0} → Option A → (A → Option B) → Option B
@@ -30,6 +32,14 @@ end_time value = do
   unit ← unit_named (drop digits value)
   time_of number unit
 
+-- The corner of a value.
+abbrev pub corner_named : List ℕ → Option Corner'
+corner_named value =
+    if bytes_eq value (codes "min") then Some corner.Min
+    else if bytes_eq value (codes "typ") then Some corner.Typ
+    else if bytes_eq value (codes "max") then Some corner.Max
+    else None
+
 -- A limit of delta numbers: 1 to 1,000,000, in at most 7 digits.
 abbrev pub delta_limit : List ℕ → Option ℕ
 delta_limit value = if nat_le (length value) 7 then (do
@@ -47,6 +57,7 @@ watch_named value =
 abbrev pub file_key : FileKind → List ℕ
 file_key Lib = codes "lib"
 file_key Net = codes "net"
+file_key Sdf = codes "sdf"
 file_key Stim = codes "stim"
 
 -- How a key is written.
@@ -54,6 +65,7 @@ abbrev pub name_of : Key → List ℕ
 name_of (File kind) = file_key kind
 name_of Until = codes "until"
 name_of Top = codes "top"
+name_of Corner = codes "corner"
 name_of Delta = codes "delta"
 name_of Watch = codes "watch"
 
@@ -62,6 +74,7 @@ abbrev pub is_good : Key → List ℕ → Bool
 is_good (File kind) value = is_file_name value
 is_good Until value = is_some (end_time value)
 is_good Top value = is_basic_identifier value
+is_good Corner value = is_some (corner_named value)
 is_good Delta value = is_some (delta_limit value)
 is_good Watch value = is_some (watch_named value)
 

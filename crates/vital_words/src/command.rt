@@ -28,6 +28,9 @@ pub struct KeyRule {
     pub is_required: bool,
 }
 
+/// How many files a command takes of a library, and how many of delays.
+const MOST_FILES: usize = 16;
+
 /// The stimulus file of a run.
 const STIM: KeyRule = KeyRule {
     key: Key::File(FileKind::Stim),
@@ -45,7 +48,7 @@ const UNTIL: KeyRule = KeyRule {
 /// The files of a library.
 const LIB: KeyRule = KeyRule {
     key: Key::File(FileKind::Lib),
-    most: 16,
+    most: MOST_FILES,
     is_required: true,
 };
 
@@ -56,11 +59,25 @@ const NET: KeyRule = KeyRule {
     is_required: false,
 };
 
+/// The files of delays.
+const SDF: KeyRule = KeyRule {
+    key: Key::File(FileKind::Sdf),
+    most: MOST_FILES,
+    is_required: false,
+};
+
 /// The top of a design.
 const TOP: KeyRule = KeyRule {
     key: Key::Top,
     most: 1,
     is_required: true,
+};
+
+/// Which values of the files of delays are taken.
+const CORNER: KeyRule = KeyRule {
+    key: Key::Corner,
+    most: 1,
+    is_required: false,
 };
 
 /// The limit of delta numbers of a run.
@@ -99,7 +116,7 @@ impl Command {
             Command::Play => &[STIM, UNTIL],
             Command::Check => &[LIB],
             Command::Tree => &[LIB, NET, TOP],
-            Command::Sim => &[LIB, NET, TOP, STIM, UNTIL, DELTA, WATCH],
+            Command::Sim => &[LIB, NET, SDF, TOP, STIM, UNTIL, CORNER, DELTA, WATCH],
         }
     }
 }

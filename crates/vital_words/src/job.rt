@@ -3,15 +3,15 @@
 ghost use Rattle.std.specs.Prelude.{◌≡◌, ◌^◌, ◌≤◌, ◌<◌, length, position, List as List', IfOk, IfSome, Ok};
 ghost use Rattle.std.specs.List.{filter_map};
 ghost use Rattle.std.specs.Option.{option_map};
-ghost use Rattle.vital_words.specs.Jobs.{file_of, file_in, is_stim, limit_of, play_of, sim_of, tree_of, task_of, watch_of, job_of, job};
+ghost use Rattle.vital_words.specs.Jobs.{file_of, file_in, is_stim, corner_of, limit_of, play_of, sim_of, tree_of, task_of, watch_of, job_of, job};
 ghost use Rattle.vital_words.specs.Given.{GivesJob, IsBounded, IsBoundedTask, NamesIn};
 ghost use Rattle.vital_words.specs.declared.job.JobError.TheVariants.{NoMemory};
 
 use crate::command::{Command, KeyRule};
-use crate::key::{FileKind, Key, delta_limit, end_time, watch_named};
+use crate::key::{FileKind, Key, corner_named, delta_limit, end_time, watch_named};
 use crate::refusal::{UsageFault, UsageWhy, first_fault, missing};
 use std::alloc::{AllocError, Global};
-use vital_base::{List, Name, Time, Watch, Word};
+use vital_base::{Corner, List, Name, Time, Watch, Word};
 
 /// What the words of a command line ask for.
 #[derive(Drop)]
@@ -67,6 +67,8 @@ pub struct Sim {
     pub top: Name,
     /// The end time, in femtoseconds.
     pub until: Time,
+    /// Which values of the files of delays are taken.
+    pub corner: Corner,
     /// A cycle with this delta number does not begin: 1 to 1,000,000.
     pub limit: u32,
     /// The signals whose first values and events are printed.
@@ -91,7 +93,7 @@ impl From<AllocError> for JobError {
 /// What the words ask for, or the first fault from left to right; or want of memory.
 pub fn read_job(alloc: Global, words: &[Word]) -> Result<Job, JobError>
     ensures job { GivesJob result (job words.now) }
-    ensures few_files { IfOk result (λ found. length found.files ≤ 18) }
+    ensures few_files { IfOk result (λ found. length found.files ≤ 34) }
     ensures names_in { IfOk result NamesIn }
     ensures bounded { IfOk result IsBounded }
 {
@@ -111,7 +113,7 @@ pub fn read_job(alloc: Global, words: &[Word]) -> Result<Job, JobError>
 /// What the words after a command ask for.
 fn job_of(alloc: Global, command: Command, words: &[Word]) -> Result<Job, JobError>
     ensures job { GivesJob result (job_of command words.now) }
-    ensures few_files { IfOk result (λ found. length found.files ≤ 18) }
+    ensures few_files { IfOk result (λ found. length found.files ≤ 34) }
     ensures names_in { IfOk result NamesIn }
     ensures bounded { IfOk result IsBounded }
 {
@@ -163,7 +165,7 @@ fn file_of<'a>(key: Key, value: &'a [u8]) -> Option<(FileKind, &'a [u8])>
 {
     match key {
         Key::File(kind) => Some((kind, value)),
-        Key::Until | Key::Top | Key::Delta | Key::Watch => None,
+        Key::Until | Key::Top | Key::Corner | Key::Delta | Key::Watch => None,
     }
 }
 
@@ -221,6 +223,16 @@ fn limit_of(words: &[Word]) -> u32
         .unwrap_or(1_000)
 }
 
+/// Which values of the files of delays are taken, which are the typical ones where no word says.
+fn corner_of(words: &[Word]) -> Corner
+    ensures { result ≡ corner_of words.now }
+{
+    Key::Corner
+        .value(words)
+        .and_then(corner_named)
+        .unwrap_or(Corner::Typ)
+}
+
 /// The signals that are watched, which are the ports where no word says.
 fn watch_of(words: &[Word]) -> Watch
     ensures { result ≡ watch_of words.now }
@@ -245,6 +257,7 @@ fn sim_of(alloc: Global, files: &[NamedFile], words: &[Word]) -> Result<Option<S
             stim,
             top: tree.top,
             until,
+            corner: corner_of(words),
             limit: limit_of(words),
             watch: watch_of(words),
         })),

@@ -4,9 +4,9 @@ ghost use Rattle.std.specs.Prelude.{◌≡◌, ◌^◌, ◌≤◌, ◌<◌, ◌=
 ghost use Rattle.std.specs.Char.{is_ascii_digit};
 ghost use Rattle.std.specs.List.{list_all};
 ghost use Rattle.std.specs.Option.{option_map, option_copied};
-ghost use Rattle.vital_words.specs.Keys.{name_of, file_key, is_good, is_file_name, end_time, delta_limit, watch_named, parts, value_in, is_for, value_of};
+ghost use Rattle.vital_words.specs.Keys.{name_of, file_key, is_good, is_file_name, end_time, corner_named, delta_limit, watch_named, parts, value_in, is_for, value_of};
 
-use vital_base::{Time, TimeUnit, Watch, Word, read_number};
+use vital_base::{Corner, Time, TimeUnit, Watch, Word, read_number};
 use vital_identifiers::is_basic_identifier;
 
 /// How many bytes the name of a file may have.
@@ -24,6 +24,8 @@ pub enum FileKind {
     Lib,
     /// VHDL of a netlist.
     Net,
+    /// Delays (IEEE 1497).
+    Sdf,
     /// Stimuli.
     Stim,
 }
@@ -37,6 +39,8 @@ pub enum Key {
     Until,
     /// The name of the top of a design.
     Top,
+    /// Which values of files of delays are taken.
+    Corner,
     /// The limit of delta numbers.
     Delta,
     /// The signals that are watched.
@@ -52,6 +56,7 @@ impl Key {
             Key::File(kind) => file_key(kind),
             Key::Until => b"until",
             Key::Top => b"top",
+            Key::Corner => b"corner",
             Key::Delta => b"delta",
             Key::Watch => b"watch",
         }
@@ -65,6 +70,7 @@ impl Key {
             Key::File(_) => is_file_name(value),
             Key::Until => end_time(value).is_some(),
             Key::Top => is_basic_identifier(value),
+            Key::Corner => corner_named(value).is_some(),
             Key::Delta => delta_limit(value).is_some(),
             Key::Watch => watch_named(value).is_some(),
         }
@@ -112,6 +118,7 @@ fn file_key(kind: FileKind) -> &'static [u8]
     match kind {
         FileKind::Lib => b"lib",
         FileKind::Net => b"net",
+        FileKind::Sdf => b"sdf",
         FileKind::Stim => b"stim",
     }
 }
@@ -140,6 +147,18 @@ pub fn end_time(value: &[u8]) -> Option<Time>
     let number = read_number(&value[..digits])?;
     let unit = TimeUnit::named(&value[digits..])?;
     unit.time(number)
+}
+
+/// The corner of a value.
+pub fn corner_named(value: &[u8]) -> Option<Corner>
+    ensures { result ≡ corner_named value.now }
+{
+    match value {
+        b"min" => Some(Corner::Min),
+        b"typ" => Some(Corner::Typ),
+        b"max" => Some(Corner::Max),
+        _ => None,
+    }
 }
 
 /// The limit of delta numbers that a value writes.

@@ -2,7 +2,7 @@
 
 use super::words::{Lines, put_bytes, put_named};
 use std::alloc::{AllocError, Global};
-use vital_base::{Watch, Word};
+use vital_base::{Corner, Watch, Word};
 use vital_words::{FileKind, Job, JobError, NamedFile, Play, Sim, Task, Tree, read_job};
 
 fn kind_word(kind: FileKind) -> &'static str {
@@ -10,6 +10,15 @@ fn kind_word(kind: FileKind) -> &'static str {
         FileKind::Lib => "lib",
         FileKind::Net => "net",
         FileKind::Stim => "stim",
+        FileKind::Sdf => "sdf",
+    }
+}
+
+fn corner_word(corner: Corner) -> &'static str {
+    match corner {
+        Corner::Min => "min",
+        Corner::Typ => "typ",
+        Corner::Max => "max",
     }
 }
 
@@ -27,7 +36,9 @@ fn put_sim(out: Lines<'_>, sim: &Sim) -> Result<(), AllocError> {
         " stim {} until {} delta {}",
         sim.stim, sim.until, sim.limit
     )?;
-    write!(out, " watch {}", watch_word(sim.watch))
+    let watch = watch_word(sim.watch);
+    let corner = corner_word(sim.corner);
+    write!(out, " watch {watch} corner {corner}")
 }
 
 fn put_task(out: Lines<'_>, task: &Task) -> Result<(), AllocError> {

@@ -39,3 +39,9 @@ returns-in-RefusedDelta-clause-ok_appends g c = rw c.in-RefusedDelta.is c.write_
 
 pub returns-in-RefusedDelta-clause-fault_appends_prefix : goal.returns-in-RefusedDelta-clause-fault_appends_prefix
 returns-in-RefusedDelta-clause-fault_appends_prefix g c = rw c.in-RefusedDelta.is c.write_fields-in-RefusedDelta.ensures.fault_appends_prefix
+
+pub returns-in-RefusedSdf-clause-ok_appends : goal.returns-in-RefusedSdf-clause-ok_appends
+returns-in-RefusedSdf-clause-ok_appends g c = rw c.in-RefusedSdf.is (rw (sym (c.fixed-in-RefusedSdf.ensures ∙ c.word-in-RefusedSdf.ensures)) c.write_fields-in-RefusedSdf.ensures.ok_appends)
+
+pub returns-in-RefusedSdf-clause-fault_appends_prefix : goal.returns-in-RefusedSdf-clause-fault_appends_prefix
+returns-in-RefusedSdf-clause-fault_appends_prefix g c = rw c.in-RefusedSdf.is (rw (sym (c.fixed-in-RefusedSdf.ensures ∙ c.word-in-RefusedSdf.ensures)) c.write_fields-in-RefusedSdf.ensures.fault_appends_prefix)

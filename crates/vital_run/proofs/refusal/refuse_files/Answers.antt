@@ -2,7 +2,7 @@ use Rattle.std.proofs.Common.{ap, ◌∙◌}
 use Rattle.vital_report.specs.Lines.{spot}
 use Rattle.vital_run.specs.Refusals.{spot_of}
 use Rattle.vital_run.proofs.Printing.{stage_for}
-use Rattle.vital_run.proofs.Refusing.{lexical_is, syntax_is, limit_is, library_is}
+use Rattle.vital_run.proofs.Refusing.{lexical_is, syntax_is, limit_is, library_is, sdf_is}
 use Rattle.vital_run.proofs.refusal.refuse_files.Goals as goal
 
 pub returns-in-Lexical : goal.returns-in-Lexical
@@ -24,3 +24,8 @@ pub returns-in-Library : goal.returns-in-Library
 returns-in-Library g c =
     let at = c.position_of-at.ensures ∙ ap (spot_of c.args.files.now) c.place.ensures in
     stage_for _ _ _ _ _ c.end_with-in-Library.ensures (λ answer is. is ∙ library_is c.args.files.now c.args.refusal c.in-Library.why c.in-Library.place (spot c.position_of-at.result) c.in-Library.is at)
+
+pub returns-in-Sdf : goal.returns-in-Sdf
+returns-in-Sdf g c =
+    let at = c.position_of-at.ensures ∙ ap (spot_of c.args.files.now) c.place.ensures in
+    stage_for _ _ _ _ _ c.end_with-in-Sdf.ensures (λ answer is. is ∙ sdf_is c.args.files.now c.args.refusal c.in-Sdf.why c.in-Sdf.place (spot c.position_of-at.result) c.in-Sdf.is at)

@@ -15,4 +15,4 @@ returns g c =
     let named = slice_get_read files (length files) sim.stim file refl c.requires.stim c.index-files-sim.is in
     let read = slice_get_read sources (length sources) sim.stim source refl within c.index-sources-sim.is in
     stage_for _ _ _ _ _ c.elaborate_top.ensures
-    (answer_of_sim sim files sources c.args.library.now file source c.as_slice.result.now c.as_slice-top.result.now named read c.as_slice.ensures c.as_slice-top.ensures)
+    (answer_of_sim sim files sources c.args.delays.now c.args.library.now file source c.as_slice.result.now c.as_slice-top.result.now named read c.as_slice.ensures c.as_slice-top.ensures)

@@ -9,17 +9,15 @@ use Rattle.vital_stim.specs.declared.stimuli.StimLine.{StimLine}
 use Rattle.vital_timing.specs.declared.delay.Delay.{Delay}
 use Rattle.vital_run.specs.Outcome.{Stage}
 use Rattle.vital_run.specs.Runs.{IsRunAnswer}
-use Rattle.vital_run.specs.Simulations.{default_delays, simulated}
-use Rattle.vital_run.proofs.Delays.{are_defaults, delays_fit}
+use Rattle.vital_run.specs.Simulations.{simulated}
+use Rattle.vital_run.proofs.Delays.{delays_fit}
 use Rattle.vital_run.proofs.Driven.{design_is_driven}
 use Rattle.vital_run.proofs.Printing.{stage_without_memory}
-use Rattle.vital_run.proofs.simulating.simulate_with.Goals as goal
+use Rattle.vital_run.proofs.simulating.simulate_stimuli.Goals as goal
 
 pub of_design-requires-clause-fit : goal.of_design-requires-clause-fit
 of_design-requires-clause-fit g c =
-    let d = c.args.design.now in
-    let are : map (λ v. v.now) c.in-Ok.found.items ≡ default_delays d = c.in-Ok.ensures ∙ are_defaults d c.instances.result.now d.cells c.args.values.now c.instances.ensures refl c.requires.values in
-    rw c.as_slice.ensures.value (delays_fit d d.cells c.in-Ok.found.items refl are c.requires.defaults)
+    rw c.as_slice.ensures.value (delays_fit c.args.design.now c.args.values.now c.in-Ok.lent.items c.in-Ok.ensures c.requires.delays)
 
 pub of_design-requires-clause-there : goal.of_design-requires-clause-there
 of_design-requires-clause-there g c =
@@ -40,12 +38,12 @@ returns g c =
     let d = c.args.design.now in
     let sim = c.args.sim.now in
     let own = c.args.stimuli.now.lines in
-    let are : map (λ v. v.now) c.in-Ok.found.items ≡ default_delays d = c.in-Ok.ensures ∙ are_defaults d c.instances.result.now d.cells c.args.values.now c.instances.ensures refl c.requires.values in
+    let values = c.args.values.now in
     let lines = c.as_slice-lines.result.now in
-    let made : c.in-Ok-of_design.network ≡ simulated sim d own =
+    let made : c.in-Ok-of_design.network ≡ simulated sim d values own =
     c.in-Ok-of_design.ensures
     ∙ ap (λ (vs : List (Bor (List Delay))). network d (map (λ v. v.now) vs) lines sim.watch) c.as_slice.ensures.value
-    ∙ ap (λ (vs : List (List Delay)). network d vs lines sim.watch) are
-    ∙ ap (λ (ls : List StimLine). network d (default_delays d) ls sim.watch) c.as_slice-lines.ensures in
+    ∙ ap (λ (vs : List (List Delay)). network d vs lines sim.watch) c.in-Ok.ensures
+    ∙ ap (λ (ls : List StimLine). network d values ls sim.watch) c.as_slice-lines.ensures in
     let stage = subst (λ (ls : List StimLine). Stage (IsRunAnswer c.in-Ok-of_design.network ls sim.until sim.limit) c.run_network.result c.args.printer.now c.run_network.new.printer) c.as_slice-lines.ensures c.run_network.ensures in
     subst (λ (n : Network). Stage (IsRunAnswer n own sim.until sim.limit) c.run_network.result c.args.printer.now c.run_network.new.printer) made stage
