@@ -1,16 +1,20 @@
 -- Bytes appended to what a sink tells.
-use Rattle.std.proofs.Common.{◌≡◌, ℕ, ◌+◌, ◌-◌, List, [], ◌++◌, length, take, drop, refl, ap, append_assoc}
+use Rattle.std.proofs.Common.{◌≡◌, ℕ, ◌+◌, ◌-◌, List, [], ◌++◌, length, take, drop, refl, ap, sym, append_assoc}
 use Rattle.std.proofs.Math.Seq.{take-add, take-length}
 use Rattle.std.proofs.lemmas.List.{append-nil, length-drop}
-use Rattle.vital_base.specs.Sinks.{Told, got, untold, appended}
+use Rattle.std.proofs.lemmas.List.Sums.{fold-append}
+use Rattle.vital_base.specs.Sinks.{Told, got, tallied, untold, appended}
+use Rattle.vital_base.specs.Tallies.{with_byte}
 
 -- one piece after another is both pieces in one
 pub appended-appended : (told : Told) (xs ys : List ℕ) → appended (appended told xs) ys ≡ appended told (xs ++ ys)
 appended-appended untold xs ys = refl
+appended-appended (tallied before) xs ys = ap tallied (sym (fold-append with_byte before xs ys))
 appended-appended (got before) xs ys = ap got (append_assoc before xs ys)
 
 pub appended-nil : (told : Told) → appended told [] ≡ told
 appended-nil untold = refl
+appended-nil (tallied before) = refl
 appended-nil (got before) = ap got (append-nil before)
 
 -- the rest of a piece as its slice gives it

@@ -6,4 +6,5 @@ pub mod MemShelves
 pub mod MemSinks
 pub mod Shelves
 pub mod Sinks
+pub mod Tallies
 pub mod Times

@@ -30,11 +30,10 @@ pub trait Sink {
         ensures err_rose { OnErr result (Rose (faults self.old) (faults self.new)) }
         ensures err_appends_nothing { OnErr result (told self.new ≡ told self.old) };
 
-    /// Counts that a write took none of a piece, as a fault. It writes nothing.
+    /// Counts that a write took none of a piece, as a fault, where the sink may stick. It writes nothing.
     fn note_stuck(&mut self)
-        requires { may_stick self.old }
-        ensures keeps_may_stick { may_stick self.new }
-        ensures rose { Rose (faults self.old) (faults self.new) }
+        ensures keeps_may_stick { may_stick self.old → may_stick self.new }
+        ensures rose { may_stick self.old → Rose (faults self.old) (faults self.new) }
         ensures never_falls { faults self.old ≤ faults self.new }
         ensures writes_nothing { told self.new ≡ told self.old };
 }
