@@ -7,24 +7,24 @@ use Rattle.vital_logic.specs.declared.level.Level.{Level}
 use Rattle.vital_logic.specs.Levels.{byte_of}
 use Rattle.vital_report.specs.Fields.{clause_word}
 use Rattle.vital_report.specs.declared.line.Line.{Line}
-use Rattle.vital_report.specs.declared.line.Line.TheVariants.{Version, Init, Event, Glitch, Violation, End, CellLevel1, CellBroken, Instance, Signal, EndOfDesign, RefusedUsage, RefusedLexical, RefusedSyntax, RefusedLimit, RefusedLibrary, RefusedNetlist, RefusedCell, RefusedDelta, RefusedStimulus, RefusedSdf, Note}
+use Rattle.vital_report.specs.declared.line.Line.TheVariants.{Version, Init, Event, Glitch, Violation, End, CellLevel1, CellBroken, Instance, Signal, EndOfDesign, SelfHead, Events, Messages, Text, RefusedUsage, RefusedLexical, RefusedSyntax, RefusedLimit, RefusedLibrary, RefusedNetlist, RefusedCell, RefusedDelta, RefusedStimulus, RefusedSdf, Note}
 use Rattle.vital_report.specs.declared.line.Position.{Position}
-use Rattle.vital_report.specs.declared.line.UsageWhy.{UsageWhy}
-use Rattle.vital_report.specs.declared.line.UsageWhy.TheVariants.{Command, Key, Twice, Value, Missing}
-use Rattle.vital_report.specs.declared.line.StimulusWhy.{StimulusWhy}
-use Rattle.vital_report.specs.declared.line.StimulusWhy.TheVariants as stimulus
-use Rattle.vital_report.specs.declared.line.LexicalWhy.{LexicalWhy}
-use Rattle.vital_report.specs.declared.line.LexicalWhy.TheVariants.{Character, Unclosed}
-use Rattle.vital_report.specs.declared.line.Limit.{Limit}
-use Rattle.vital_report.specs.declared.line.Limit.TheVariants.{File, Tokens, Nesting, Units, Ports, Rows, Columns, Paths, Delay, Instances, Nets, Depth}
-use Rattle.vital_report.specs.declared.line.LibraryWhy.{LibraryWhy}
-use Rattle.vital_report.specs.declared.line.LibraryWhy.TheVariants.{Duplicate, Entity}
-use Rattle.vital_report.specs.declared.line.NetlistWhy.{NetlistWhy}
-use Rattle.vital_report.specs.declared.line.NetlistWhy.TheVariants as netlist
-use Rattle.vital_report.specs.declared.line.NoteWhy.{NoteWhy}
-use Rattle.vital_report.specs.declared.line.NoteWhy.TheVariants as note_why
-use Rattle.vital_report.specs.declared.line.SdfWhy.{SdfWhy}
-use Rattle.vital_report.specs.declared.line.SdfWhy.TheVariants as sdf_why
+use Rattle.vital_report.specs.declared.why.UsageWhy.{UsageWhy}
+use Rattle.vital_report.specs.declared.why.UsageWhy.TheVariants.{Command, Key, Twice, Value, Missing}
+use Rattle.vital_report.specs.declared.why.StimulusWhy.{StimulusWhy}
+use Rattle.vital_report.specs.declared.why.StimulusWhy.TheVariants as stimulus
+use Rattle.vital_report.specs.declared.why.LexicalWhy.{LexicalWhy}
+use Rattle.vital_report.specs.declared.why.LexicalWhy.TheVariants.{Character, Unclosed}
+use Rattle.vital_report.specs.declared.why.Limit.{Limit}
+use Rattle.vital_report.specs.declared.why.Limit.TheVariants.{File, Tokens, Nesting, Units, Ports, Rows, Columns, Paths, Delay, Instances, Nets, Depth}
+use Rattle.vital_report.specs.declared.why.LibraryWhy.{LibraryWhy}
+use Rattle.vital_report.specs.declared.why.LibraryWhy.TheVariants.{Duplicate, Entity}
+use Rattle.vital_report.specs.declared.why.NetlistWhy.{NetlistWhy}
+use Rattle.vital_report.specs.declared.why.NetlistWhy.TheVariants as netlist
+use Rattle.vital_report.specs.declared.why.NoteWhy.{NoteWhy}
+use Rattle.vital_report.specs.declared.why.NoteWhy.TheVariants as note_why
+use Rattle.vital_report.specs.declared.why.SdfWhy.{SdfWhy}
+use Rattle.vital_report.specs.declared.why.SdfWhy.TheVariants as sdf_why
 use Rattle.vital_timing_checks.specs.declared.violated.CheckKind.{CheckKind}
 use Rattle.vital_timing_checks.specs.declared.violated.CheckKind.TheVariants.{Hold, Period, Pulse, Recovery, Removal, Setup}
 use Rattle.vital_timing_checks.specs.declared.violated.Violated.{Violated}
@@ -48,6 +48,10 @@ pub data Said : Type 0 where
   instance : (path unit : List ℕ) (is_cell : Bool) → Said
   signal : (name : List ℕ) (is_resolved : Bool) (drivers : ℕ) → Said
   end_of_design : Said
+  self_head : (seed cells : ℕ) → Said
+  events : (count : ℕ) → Said
+  messages : (count : ℕ) → Said
+  made_before : (text : List ℕ) → Said
   note : (why : NoteWhy) (at : Spot) → Said
   refused_usage : (word : ℕ) (why : UsageWhy) → Said
   refused_lexical : (why : LexicalWhy) (at : Spot) → Said
@@ -78,6 +82,10 @@ said (CellBroken entity arch clause at) = cell_broken entity.now (option_map (λ
 said (Instance path unit is_cell) = instance path.now unit.now is_cell
 said (Signal name is_resolved drivers) = signal name.now is_resolved drivers
 said EndOfDesign = end_of_design
+said (SelfHead seed cells) = self_head seed cells
+said (Events count) = events count
+said (Messages count) = messages count
+said (Text text) = made_before text.now
 said (Note at why) = note why (spot at)
 said (RefusedUsage word why) = refused_usage word why
 said (RefusedLexical at why) = refused_lexical why (spot at)
@@ -108,6 +116,14 @@ is_of_design (Instance path unit is_cell) = true
 is_of_design (Signal name is_resolved drivers) = true
 is_of_design EndOfDesign = true
 is_of_design line = false
+
+-- Is it a line of the command `self`?
+abbrev pub is_of_self : Line → Bool
+is_of_self (SelfHead seed cells) = true
+is_of_self (Events count) = true
+is_of_self (Messages count) = true
+is_of_self (Text text) = true
+is_of_self line = false
 
 -- Is it the line of a refusal?
 abbrev pub is_refusal : Line → Bool
@@ -256,6 +272,10 @@ bytes_of (cell_broken entity arch clause at) =
 bytes_of (instance path unit is_cell) = line_of (codes "instance") (path ∷ unit ∷ unit_word is_cell ∷ [])
 bytes_of (signal name is_resolved drivers) = line_of (codes "signal") (name ∷ type_word is_resolved ∷ decimal drivers ∷ [])
 bytes_of end_of_design = line_of (codes "end") []
+bytes_of (self_head seed cells) = line_of (codes "self") (decimal seed ∷ decimal cells ∷ [])
+bytes_of (events count) = line_of (codes "events") (decimal count ∷ [])
+bytes_of (messages count) = line_of (codes "messages") (decimal count ∷ [])
+bytes_of (made_before text) = line_of text []
 bytes_of (note why at) = line_of (codes "note sdf") (spot_fields at ++ note_word why ∷ [])
 bytes_of (refused_usage word why) = line_of (codes "refused usage") (decimal word ∷ usage_word why ∷ [])
 bytes_of (refused_lexical why at) = line_of (codes "refused lexical") (spot_fields at ++ lexical_word why ∷ [])

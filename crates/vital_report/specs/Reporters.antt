@@ -1,5 +1,5 @@
 -- A reporter, which writes lines to a sink, and a printer, which keeps both.
-use Rattle.std.specs.Prelude.{ℕ, ◌≤◌, Bool, true, false, ◌≡◌, ◌++◌, ◌⊎◌, List, take, Result, Ok, Err}
+use Rattle.std.specs.Prelude.{ℕ, ◌*◌, ◌<◌, ◌≤◌, Bool, true, false, ◌≡◌, ◌++◌, ◌⊎◌, List, length, take, Result, Ok, Err}
 use Rattle.vital_base.specs.Faults.{Rose}
 use Rattle.vital_base.specs.Sinks.{Told, appended, AppendsPrefix}
 use Rattle.vital_report.specs.declared.print_error.PrintError.{PrintError}
@@ -13,6 +13,16 @@ pub record ReporterState : Type 0 where
 -- What the sink got in a call, and then what the reporter holds, are what it held before, and then the text.
 abbrev pub PassesOn : Told → List ℕ → List ℕ → Told → List ℕ → Type 0
 PassesOn told held text told' held' = (got : List ℕ) × (told' ≡ appended told got) × (got ++ held' ≡ held ++ text)
+
+-- What is written when a text comes behind what was held: the sink got a multiple of 4,096 bytes of both, and the rest, fewer than 4,096
+-- bytes, is held.
+pub record WritesFull (told : Told) (held text : List ℕ) (told' : Told) (held' : List ℕ) : Type 0 where
+  pub got : List ℕ
+  pub count : ℕ
+  pub told_is : told' ≡ appended told got
+  pub split : got ++ held' ≡ held ++ text
+  pub multiple : length got ≡ count * 4096
+  pub rest : length held' < 4096
 
 -- A printer: what its sink tells, the bytes that it holds and has still to write, whether it has stopped, how many faults its
 -- sink had, and which sink it borrows.

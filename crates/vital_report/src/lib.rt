@@ -1,20 +1,22 @@
 //! The lines that are printed, and the reporter that writes them to a sink.
 #![tactic(auto)]
 
-mod buffer;
+mod event_start;
 mod fields;
+mod held;
 mod line;
-mod long_line;
 mod print_error;
 mod printer;
 mod reporter;
 mod said;
+mod tally_sink;
+mod texts;
 mod value;
+mod why;
 
-pub use line::{
-    LexicalWhy, LibraryWhy, Limit, Line, NetlistWhy, NoteWhy, Position, SdfWhy, StimulusWhy,
-    UsageWhy,
-};
+pub use line::{Line, Position};
 pub use print_error::PrintError;
 pub use printer::Printer;
 pub use reporter::{NoMemory, Reporter};
+pub use tally_sink::TallySink;
+pub use why::{LexicalWhy, LibraryWhy, Limit, NetlistWhy, NoteWhy, SdfWhy, StimulusWhy, UsageWhy};

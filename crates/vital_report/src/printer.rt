@@ -1,6 +1,7 @@
 ghost use Rattle.std.specs.Prelude.{◌≡◌, [], true, IsErr, OnOk};
+ghost use Rattle.vital_base.specs.Sinks.{appended};
 ghost use Rattle.vital_report.specs.Lines.{said, bytes_of};
-ghost use Rattle.vital_report.specs.Reporters.{Prints};
+ghost use Rattle.vital_report.specs.Reporters.{Prints, WritesFull};
 
 use crate::line::Line;
 use crate::reporter::Reporter;
@@ -45,6 +46,8 @@ impl<'a, K: Sink> Printer<'a, K> {
     /// Prints the line. It takes no memory.
     pub fn print(&mut self, line: &Line<'_>) -> Result<(), WriteFault>
         ensures prints { Prints result (bytes_of (said line.now)) self.old self.new }
+        ensures ok_writes_full { OnOk result (WritesFull self.old.told self.old.held (bytes_of (said line.now))
+            self.new.told self.new.held) }
         ensures stopped_is_fault { self.old.stopped ≡ true → IsErr result }
         ensures stopped_prints_nothing { self.old.stopped ≡ true → self.new ≡ self.old }
     {
@@ -54,6 +57,7 @@ impl<'a, K: Sink> Printer<'a, K> {
     /// Writes what is held, so that nothing is. It takes no memory.
     pub fn flush(&mut self) -> Result<(), WriteFault>
         ensures prints { Prints result [] self.old self.new }
+        ensures ok_writes_all { OnOk result (self.new.told ≡ appended self.old.told self.old.held) }
         ensures ok_holds_nothing { OnOk result (self.new.held ≡ []) }
         ensures stopped_is_fault { self.old.stopped ≡ true → IsErr result }
         ensures stopped_prints_nothing { self.old.stopped ≡ true → self.new ≡ self.old }

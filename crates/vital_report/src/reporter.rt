@@ -1,9 +1,11 @@
 ghost use Rattle.std.specs.Prelude.{◌≡◌, ◌≤◌, ◌++◌, ◌⊎◌, [], true, false, IfOk, OnOk, OnErr, IsErr};
 ghost use Rattle.vital_base.specs.Faults.{Rose};
-ghost use Rattle.vital_base.specs.Sinks.{AppendsPrefix};
+ghost use Rattle.vital_base.specs.Sinks.{appended, AppendsPrefix};
 ghost use Rattle.vital_report.specs.Lines.{said, bytes_of};
-ghost use Rattle.vital_report.specs.Reporters.{PassesOn};
+ghost use Rattle.vital_report.specs.Reporters.{PassesOn, WritesFull};
 
+use crate::event_start::EventStart;
+use crate::held::Held;
 use crate::line::Line;
 use crate::said::write;
 use std::alloc::{AllocError, Global};
@@ -13,28 +15,25 @@ use vital_base::{Sink, WriteFault};
 /// Memory ran out.
 pub type NoMemory = AllocError;
 
-/// How many bytes a reporter has room for: more than a usual line has.
-const ROOM: usize = 4_096;
-
-/// Writes lines to a sink, each by one write where the sink takes it and its room suffices.
+/// Writes lines to a sink, 4,096 bytes at once; what is fewer it holds until more come, or until it is flushed.
 ///
 /// After a fault it has stopped: a prefix of what was to be written has been written, and each later call is a fault too and
 /// writes nothing.
 #[derive(Drop)]
 pub struct Reporter {
-    /// Where a line is put together. No line is held in it between two calls.
-    buffer: Vec<u8>,
+    held: Held,
+    /// How the line of the last event began.
+    start: EventStart,
     stopped: bool,
 }
 
 impl Model for Reporter {
-    ghost use Rattle.std.specs.Prelude.{[]};
     ghost use Rattle.vital_report.specs.Reporters.{ReporterState};
 
     ghost Value = { ReporterState };
 
     ghost view = { λ r. record {
-      held = [];
+      held = r.held;
       stopped = r.stopped;
     } };
 }
@@ -44,9 +43,10 @@ impl Reporter {
     pub fn new(alloc: Global) -> Result<Reporter, NoMemory>
         ensures { IfOk result (λ reporter. reporter ≡ record { held = []; stopped = false }) }
     {
-        let buffer = vec![in alloc; 0u8; ROOM]?;
+        let held = Held::new(alloc)?;
         Ok(Reporter {
-            buffer,
+            held,
+            start: EventStart::new(0, 0),
             stopped: false,
         })
     }
@@ -57,6 +57,8 @@ impl Reporter {
         ensures never_falls { K.faults sink.old ≤ K.faults sink.new }
 
         ensures ok_passes_on { OnOk result (PassesOn (K.told sink.old) self.old.held (bytes_of (said line.now))
+            (K.told sink.new) self.new.held) }
+        ensures ok_writes_full { OnOk result (WritesFull (K.told sink.old) self.old.held (bytes_of (said line.now))
             (K.told sink.new) self.new.held) }
         ensures ok_goes_on { OnOk result (self.new.stopped ≡ false) }
         ensures ok_leaves_count { OnOk result (K.faults sink.new ≡ K.faults sink.old) }
@@ -74,7 +76,7 @@ impl Reporter {
         if self.stopped {
             return Err(WriteFault);
         }
-        let outcome = write(&mut self.buffer, sink, line);
+        let outcome = write(&mut self.held, sink, &mut self.start, line);
         self.stopped = outcome.is_err();
         outcome
     }
@@ -85,6 +87,7 @@ impl Reporter {
         ensures never_falls { K.faults sink.old ≤ K.faults sink.new }
 
         ensures ok_passes_on { OnOk result (PassesOn (K.told sink.old) self.old.held [] (K.told sink.new) self.new.held) }
+        ensures ok_writes_all { OnOk result (K.told sink.new ≡ appended (K.told sink.old) self.old.held) }
         ensures ok_holds_nothing { OnOk result (self.new ≡ record { held = []; stopped = false }) }
         ensures ok_leaves_count { OnOk result (K.faults sink.new ≡ K.faults sink.old) }
 
@@ -97,11 +100,11 @@ impl Reporter {
         ensures stopped_writes_nothing { self.old.stopped ≡ true → sink.new ≡ sink.old }
         ensures stopped_stays { self.old.stopped ≡ true → self.new ≡ self.old }
     {
-        let _ = &sink;
         if self.stopped {
-            Err(WriteFault)
-        } else {
-            Ok(())
+            return Err(WriteFault);
         }
+        let flushed = self.held.flush(sink);
+        self.stopped = flushed.is_err();
+        flushed
     }
 }

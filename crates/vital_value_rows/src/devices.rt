@@ -18,6 +18,7 @@ pub fn say(alloc: Global, words: &[&str], files: &[GivenFile], row: &Row) -> Sai
         "reporter" => reporter(alloc, row),
         "printer" => printer(alloc, row),
         "long" => long(alloc, row, word(words, 1)),
+        "many" => many(alloc, row, word(words, 1)),
         "list" => list(alloc),
         "holds" => holds(alloc, word(words, 1).as_bytes()),
         _ => Ok(None),
@@ -129,7 +130,7 @@ fn printer(alloc: Global, row: &Row) -> Said {
     Ok(Some(text))
 }
 
-/// How many bytes of a line of a signal are written where its name has so many.
+/// How many bytes of a line of a signal are written before a flush where its name has so many.
 fn long(alloc: Global, row: &Row, length: &str) -> Said {
     let Some(length) = small(length) else {
         return Ok(None);
@@ -139,6 +140,23 @@ fn long(alloc: Global, row: &Row, length: &str) -> Said {
     let mut sink = sink_of(alloc, row)?;
     let _ = Reporter::new(alloc)?.put(&mut sink, &Line::Init { name, value });
     let text = format!(in alloc; "{} bytes\n", sink.bytes().len())?;
+    Ok(Some(text))
+}
+
+/// What comes of the last of so many first lines of a run that are put, and how many bytes are written before a flush.
+fn many(alloc: Global, row: &Row, count: &str) -> Said {
+    let Some(count) = small(count) else {
+        return Ok(None);
+    };
+    let mut sink = sink_of(alloc, row)?;
+    let mut reporter = Reporter::new(alloc)?;
+    let mut last = Ok(());
+    for _ in 0..count {
+        last = reporter.put(&mut sink, &Line::Version);
+    }
+    let mut text = String::new(alloc);
+    put_answer(&mut text, last)?;
+    write!(text, "{} bytes\n", sink.bytes().len())?;
     Ok(Some(text))
 }
 

@@ -70,6 +70,12 @@ fn of_simulation<'a>(told: &Told<'a>) -> Option<Line<'a>> {
             port: told.word(3).as_bytes(),
         },
         "end" => Line::End { time: time? },
+        "self" => Line::SelfHead {
+            seed: number(told.word(2))?,
+            cells: small(told.word(3))?,
+        },
+        "events" => Line::Events { count: time? },
+        "messages" => Line::Messages { count: time? },
         "delta" => Line::RefusedDelta {
             time: time?,
             limit: number(told.word(3))?,
@@ -181,7 +187,7 @@ fn line_of<'a>(told: &Told<'a>) -> Option<Line<'a>> {
         .or_else(|| of_delays(told))
 }
 
-/// A line as it is printed; a flush writes no more.
+/// A line as it is printed by a flush.
 pub fn say(alloc: Global, words: &[&str]) -> Said {
     let first = Name::new(word(words, 2).as_bytes().to_vec(alloc)?);
     let second = Name::new(word(words, 3).as_bytes().to_vec(alloc)?);
@@ -196,7 +202,7 @@ pub fn say(alloc: Global, words: &[&str]) -> Said {
     }
 }
 
-/// What is printed of a line; and a word more where a flush writes more.
+/// What is printed of a line by a flush; and a word more where that failed, or where some was written before.
 fn printed(alloc: Global, line: &Line<'_>) -> Said {
     let mut sink = MemSink::new(alloc, 1_000, List::new(Vec::new(alloc)));
     let mut reporter = Reporter::new(alloc)?;
@@ -205,8 +211,8 @@ fn printed(alloc: Global, line: &Line<'_>) -> Said {
     let is_flushed = reporter.flush(&mut sink).is_ok();
     let mut text = String::new(alloc);
     text.push_str(std::str::from_utf8(sink.bytes()).unwrap_or("no text\n"))?;
-    if !is_put || !is_flushed || sink.bytes().len() != length {
-        text.push_str("a fault, or more by a flush\n")?;
+    if !is_put || !is_flushed || length != 0 {
+        text.push_str("a fault, or bytes before a flush\n")?;
     }
     Ok(Some(text))
 }
