@@ -5,7 +5,7 @@ use Rattle.std.proofs.lemmas.Bool.{false≢true}
 use Rattle.vital_agenda.specs.Agendas.{Content}
 use Rattle.vital_kernel.specs.Activations.{CanRun, KeepsValues, state_of}
 use Rattle.vital_kernel.specs.Handing.{AreLeft}
-use Rattle.vital_kernel.specs.Kernels.{AreParts, Simulation}
+use Rattle.vital_kernel.specs.Kernels.{AreParts}
 use Rattle.vital_kernel.specs.States.{State}
 use Rattle.vital_kernel.proofs.CycleLemmas.{as_many_drivers, as_many_signals}
 use Rattle.vital_kernel.proofs.StimulusLemmas.{all_left}
@@ -14,11 +14,6 @@ use Rattle.vital_kernel.specs.Networks.{Network, all_drivers}
 use Rattle.vital_kernel.specs.Processes.{ProcessStates}
 use Rattle.vital_signals.specs.SignalStates.{AreCurrent, SignalState}
 use Rattle.vital_stim.specs.declared.stimuli.StimLine.{StimLine}
-
--- a simulation in the state whose parts these are
-abbrev pub simulation : Network → List StimLine → Bool → ℕ → Content → SignalState → ProcessStates → Simulation
-simulation n lines begun delta content s processes =
-    record { network = n; lines = lines; is_begun = begun; state = state_of content delta s.signals processes.variables }
 
 -- what is new of the parts
 pub record AreNext (n : Network) (numbers : List ℕ) (left : List StimLine) (count : ℕ) (old new : Content) (s t : SignalState) (qs : ProcessStates) (ls ms : ListenerState) : Type 0 where
@@ -34,8 +29,8 @@ pub record AreNext (n : Network) (numbers : List ℕ) (left : List StimLine) (co
   pub delta : count < 2 ^ 64 - 1
 
 pub next_parts : (n : Network) (lines had left : List StimLine) (begun : Bool) (before delta most room : ℕ) (numbers : List ℕ) (old new : Content) (s t : SignalState) (ps qs : ProcessStates) (ls ms : ListenerState)
-    → AreParts (simulation n lines begun before old s ps) numbers had most s ps ls → begun ≡ true → room ≡ most → AreNext n numbers left delta old new s t qs ls ms
-    → AreParts (simulation n lines begun delta new t qs) numbers left room t qs ms
+    → AreParts n lines begun (state_of old before s.signals ps.variables) numbers had most s ps ls → begun ≡ true → room ≡ most → AreNext n numbers left delta old new s t qs ls ms
+    → AreParts n lines begun (state_of new delta t.signals qs.variables) numbers left room t qs ms
 next_parts n lines had left begun before delta most room numbers old new s t ps qs ls ms h is same next =
     record {
       defaults = next.defaults ∙ h.defaults;
@@ -56,8 +51,8 @@ next_parts n lines had left begun before delta most room numbers old new s t ps 
 
 -- assignments alone
 pub kept_parts : (n : Network) (lines had left : List StimLine) (begun : Bool) (delta most : ℕ) (numbers : List ℕ) (old new : Content) (s : SignalState) (ps qs : ProcessStates) (ls : ListenerState)
-    → AreParts (simulation n lines begun delta old s ps) numbers had most s ps ls → begun ≡ true → KeepsValues old new → qs.network ≡ n → qs.latest ≤ new.now → AreLeft numbers (length n.stimulus_drivers) old.now left
-    → AreParts (simulation n lines begun delta new s qs) numbers left most s qs ls
+    → AreParts n lines begun (state_of old delta s.signals ps.variables) numbers had most s ps ls → begun ≡ true → KeepsValues old new → qs.network ≡ n → qs.latest ≤ new.now → AreLeft numbers (length n.stimulus_drivers) old.now left
+    → AreParts n lines begun (state_of new delta s.signals qs.variables) numbers left most s qs ls
 kept_parts n lines had left begun delta most numbers old new s ps qs ls h is keeps network latest come =
     next_parts n lines had left begun delta delta most most numbers old new s s ps qs ls ls h is refl (record {
       defaults = refl;
@@ -74,8 +69,8 @@ kept_parts n lines had left begun delta most numbers old new s ps qs ls h is kee
 
 -- the initial run begins
 pub begun_parts : (n : Network) (lines left : List StimLine) (begun : Bool) (delta most : ℕ) (numbers : List ℕ) (old : Content) (s : SignalState) (ps : ProcessStates) (ls : ListenerState)
-    → AreParts (simulation n lines begun delta old s ps) numbers left most s ps ls → begun ≡ false → All (λ d. d.signal < length n.signals) (all_drivers n)
-    → AreParts (simulation n lines true delta old s ps) numbers lines most s ps ls
+    → AreParts n lines begun (state_of old delta s.signals ps.variables) numbers left most s ps ls → begun ≡ false → All (λ d. d.signal < length n.signals) (all_drivers n)
+    → AreParts n lines true (state_of old delta s.signals ps.variables) numbers lines most s ps ls
 begun_parts n lines left begun delta most numbers old s ps ls h is there =
     let zero : old.now ≡ 0 = ap (λ (x : State). x.now) (h.first is).0 in
     record {

@@ -28,6 +28,7 @@ mod Lifting
 mod StimulusLemmas
 mod Steps
 mod RunLemmas
+mod PartLemmas
 mod CycleLemmas
 mod NameLemmas
 mod KernelLemmas

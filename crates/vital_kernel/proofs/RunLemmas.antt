@@ -2,14 +2,14 @@
 use Rattle.std.proofs.Common.{◌≡◌, ◌∙◌, ℕ, ◌+◌, ◌-◌, ◌*◌, ◌<◌, ◌≤◌, Bool, true, false, List, [], ◌++◌, Option, Some, Result, Ok, Err, refl, ap, sym, subst, append_assoc, arith}
 use Rattle.std.specs.List.{flat_map}
 use Rattle.std.specs.Result.{IsErrAnd}
-use Rattle.std.proofs.lemmas.Bool.{eq-eqb, le-leb, lt-leb, ne_eqb}
+use Rattle.std.proofs.lemmas.Bool.{le-leb, lt-leb}
 use Rattle.std.proofs.lemmas.List.{append-nil}
 use Rattle.std.proofs.lemmas.List.Concat.{flat_map-append}
 use Rattle.std.proofs.lemmas.Result.{err_from_is_err_and}
 use Rattle.vital_agenda.specs.Driver.{next_time}
 use Rattle.vital_kernel.specs.Activations.{text_in}
 use Rattle.vital_kernel.specs.Cycles.{Happening, cycle_at, initial_run}
-use Rattle.vital_kernel.specs.Kernels.{ComesTo, GoesOn, IsRunAfter, IsRunOf, PrintsRun, Simulation, begun, begun_text, told_by}
+use Rattle.vital_kernel.specs.Kernels.{ComesTo, GoesOn, IsRunAfter, IsRunOf, PrintsRun, Simulation, begun, begun_text, gives_up, told_by}
 use Rattle.vital_kernel.specs.Lines.{init_lines, lines_of, run_lines}
 use Rattle.vital_kernel.specs.RunErrors.{run_error}
 use Rattle.vital_kernel.specs.Runs.{DeltaPassed, End, Ended, IsRun, IsRunFrom, Run, cycle, delta_at, ended, ends, goes_on, passed, passes, step, step_at, up_to}
@@ -137,11 +137,12 @@ run_passed n until limit whole start s time now h is =
 -- ---- a call that goes on
 
 -- what it does from a state after the initial run
-pub goes_from : (result : Result Unit RunError) (until limit : ℕ) (old new : Simulation) (before after : PrinterState) → old.is_begun ≡ true
+pub goes_from : (result : Result Unit RunError) (until limit : ℕ) (old new : Simulation) (before after : PrinterState) → old.is_begun ≡ true → new.is_given_up ≡ gives_up result
     → ((r : Run) → IsRunFrom old.network until limit old.state r → PrintsRun result (text_in old.network r.happened) before after × ComesTo result old new r)
     → GoesOn result until limit old new before after
-goes_from result until limit old new before after is all =
+goes_from result until limit old new before after is given_up all =
     record {
+      given_up = given_up;
       prints = λ r h. rw is (all r (subst (λ (b : Bool). IsRunAfter b old until limit r) is h)).0;
       comes_to = λ r h. (all r (subst (λ (b : Bool). IsRunAfter b old until limit r) is h)).1;
     }
@@ -185,12 +186,12 @@ record Begins (k : Simulation) (until limit : ℕ) (r : Run) : Type 0 where
   pub end : r.end ≡ later.end
 
 begins : (k : Simulation) (until limit : ℕ) (r : Run) → IsRunOf k until limit r → Begins k until limit r
-begins k until limit r h = by k.network k.lines k.is_begun k.state h
+begins k until limit r h = by k.network k.lines k.is_begun k.is_given_up k.state h
   where
-    by : (n : Network) (lines : List StimLine) (b : Bool) (s : State) → let k : Simulation = record { network = n; lines = lines; is_begun = b; state = s } in
+    by : (n : Network) (lines : List StimLine) (b g : Bool) (s : State) → let k : Simulation = record { network = n; lines = lines; is_begun = b; is_given_up = g; state = s } in
         IsRunOf k until limit r → Begins k until limit r
-    by n lines true s h = record { later = r; is = h; text = refl; last = refl; end = refl }
-    by n lines false s (later, is, same) =
+    by n lines true g s h = record { later = r; is = h; text = refl; last = refl; end = refl }
+    by n lines false g s (later, is, same) =
         record {
           later = later;
           is = is;
@@ -200,12 +201,15 @@ begins k until limit r h = by k.network k.lines k.is_begun k.state h
         }
 
 begun_is : (k : Simulation) → begun k ≡ record k { is_begun = true; state = (begun k).state }
-begun_is k = by k.network k.lines k.is_begun k.state
+begun_is k = by k.network k.lines k.is_begun k.is_given_up k.state
   where
-    by : (n : Network) (lines : List StimLine) (b : Bool) (s : State) → let k : Simulation = record { network = n; lines = lines; is_begun = b; state = s } in
+    by : (n : Network) (lines : List StimLine) (b g : Bool) (s : State) → let k : Simulation = record { network = n; lines = lines; is_begun = b; is_given_up = g; state = s } in
         begun k ≡ record k { is_begun = true; state = (begun k).state }
-    by n lines true s = refl
-    by n lines false s = refl
+    by n lines true g s = refl
+    by n lines false g s = refl
+
+pub begun_is_begun : (k : Simulation) → (begun k).is_begun ≡ true
+begun_is_begun k = ap (λ (x : Simulation). x.is_begun) (begun_is k)
 
 comes_to_then : (result : Result Unit RunError) (k new : Simulation) (s : State) (r later : Run) → r.last ≡ later.last → r.end ≡ later.end
     → ComesTo result (let it : Simulation = record k { is_begun = true; state = s } in it) new later → ComesTo result k new r
@@ -222,6 +226,7 @@ goes_then result until limit old middle new before between after same printed h 
     let is : middle ≡ k = same ∙ begun_is old in
     let on : GoesOn result until limit k new between after = subst (λ (x : Simulation). GoesOn result until limit x new between after) is h in
     record {
+      given_up = h.given_up;
       prints = λ r run.
           let b = begins old until limit r run in
           subst (λ (text : List ℕ). PrintsRun result text before after) (sym b.text)
@@ -232,12 +237,23 @@ goes_then result until limit old middle new before between after same printed h 
           comes_to_then result old new (begun old).state r b.later b.last b.end (from_goes result until limit k new between after refl on b.later b.is).1;
     }
 
-pub begin_failed : (result : Result Unit RunError) (e : PrintError) (until limit : ℕ) (old new : Simulation) (before after : PrinterState) → before.stopped ≡ false
+-- a fault gives the simulation up
+gives_up_on : (e : PrintError) → gives_up (Err (run_error e)) ≡ true
+gives_up_on print.WriteFault = refl
+gives_up_on print.NoMemory = refl
+
+pub gives_up_failed : (result : Result Unit RunError) (e : PrintError) (mark : Bool) → IsErrAnd result (λ x. x ≡ run_error e) → mark ≡ true → mark ≡ gives_up result
+gives_up_failed result e mark failed is =
+    let p = err_from_is_err_and result failed in
+    is ∙ sym (gives_up_on e) ∙ ap (λ (x : RunError). gives_up (Err x)) (sym p.2) ∙ ap gives_up (sym p.1)
+
+pub begin_failed : (result : Result Unit RunError) (e : PrintError) (until limit : ℕ) (old new : Simulation) (before after : PrinterState) → before.stopped ≡ false → new.is_given_up ≡ true
     → IsErrAnd result (λ x. x ≡ run_error e) → PrintsPart {T = Unit {0}} (Err e) (begun_text old) before after → GoesOn result until limit old new before after
-begin_failed result e until limit old new before after going failed w =
+begin_failed result e until limit old new before after going given_up failed w =
     let p = err_from_is_err_and result failed in
     let is : result ≡ Err (run_error e) = p.1 ∙ ap (λ (x : RunError). Err x) p.2 in
     subst (λ (x : Result Unit RunError). GoesOn x until limit old new before after) (sym is) (record {
+      given_up = given_up ∙ sym (gives_up_on e);
       prints = λ r run.
           let b = begins old until limit r run in
           subst (λ (text : List ℕ). PrintsRun (Err (run_error e)) text before after) (sym b.text)
@@ -276,38 +292,3 @@ fewer_steps until limit now time delta le within next =
     let most = steps_left until limit now delta in
     let less = fewer_left until limit now time delta most le within next (omega arith) in
     omega (arith, less)
-
--- ---- the initial run, where it is done and where it is still to come
-
-pub begun_as_it_is : (k : Simulation) → k.is_begun ≡ true → begun k ≡ k
-begun_as_it_is k e = rw e refl
-
-pub text_as_it_is : (k : Simulation) → k.is_begun ≡ true → begun_text k ≡ []
-text_as_it_is k e = rw e refl
-
-pub begun_first : (k : Simulation) → k.is_begun ≡ false → begun k ≡ record k { is_begun = true; state = (initial_run k.network k.lines).state }
-begun_first k e = rw e refl
-
-pub text_first : (k : Simulation) → k.is_begun ≡ false → begun_text k ≡ text_of (run_lines k.network (initial_run k.network k.lines).happened)
-text_first k e = rw e refl
-
-pub begun_is_begun : (k : Simulation) → (begun k).is_begun ≡ true
-begun_is_begun k = ap (λ (x : Simulation). x.is_begun) (begun_is k)
-
--- ---- a cycle of the same network with the same delta number
-
-pub cycle_state : (m n : Network) (time delta d : ℕ) (s : State) → m ≡ n → delta ≡ d → (cycle_at m time delta s).state ≡ (cycle_at n time d s).state
-cycle_state m n time delta d s same is =
-    ap (λ (x : Network). (cycle_at x time delta s).state) same ∙ ap (λ (x : ℕ). (cycle_at n time x s).state) is
-
-pub cycle_text : (m n : Network) (time delta d : ℕ) (s : State) → m ≡ n → delta ≡ d → text_in m (cycle_at m time delta s).happened ≡ text_in n (cycle_at n time d s).happened
-cycle_text m n time delta d s same is =
-    ap (λ (x : Network). text_in x (cycle_at x time delta s).happened) same ∙ ap (λ (x : ℕ). text_in n (cycle_at n time x s).happened) is
-
--- ---- the delta number of the next cycle
-
-pub delta_more : (time now delta : ℕ) → time ≡ now → delta + 1 ≡ delta_at time now delta
-delta_more time now delta same = rw (eq-eqb time now same) refl
-
-pub delta_anew : (time now read delta : ℕ) → (time ≡ read → ⊥) → read ≡ now → 0 ≡ delta_at time now delta
-delta_anew time now read delta other is = rw (ne_eqb time now (λ e. other (e ∙ sym is))) refl

@@ -5,18 +5,11 @@ use Rattle.std.proofs.lemmas.Bool.{false≢true}
 use Rattle.std.proofs.lemmas.List.{append-nil, take-append-drop}
 use Rattle.std.specs.Result.{IsErrAnd}
 use Rattle.std.proofs.lemmas.Result.{err_from_is_err_and}
-use Rattle.vital_base.specs.Sinks.{Told, got as bytes, untold, appended, AppendsPrefix}
+use Rattle.vital_base.proofs.Appending.{appended-appended, appended-nil}
+use Rattle.vital_base.specs.Sinks.{Told, appended, AppendsPrefix}
 use Rattle.vital_report.specs.Reporters.{PrinterState, Printed, Prints, PrintsPart, Stopped}
 use Rattle.vital_report.specs.declared.print_error.PrintError.{PrintError}
 use Rattle.vital_report.specs.declared.print_error.PrintError.TheVariants as error
-
-appended-appended : (told : Told) (xs ys : List ℕ) → appended (appended told xs) ys ≡ appended told (xs ++ ys)
-appended-appended untold xs ys = refl
-appended-appended (bytes before) xs ys = ap bytes (append_assoc before xs ys)
-
-appended-nil : (told : Told) → appended told [] ≡ told
-appended-nil untold = refl
-appended-nil (bytes before) = ap bytes (append-nil before)
 
 -- a part of a text was appended, and the rest was not
 appends_part : (told new : Told) (part rest text : List ℕ) → new ≡ appended told part → part ++ rest ≡ text → AppendsPrefix told text new
@@ -83,6 +76,14 @@ stopped_within first more x z one =
       same_sink = one.same_sink;
     }
 
+-- ---- a text that is flushed
+
+pub flushed : (text : List ℕ) (x y z : PrinterState) → Printed text x y → Printed [] y z → Printed text x z
+flushed text x y z one two = rw (append-nil text) at (printed_then text [] x y z one two)
+
+pub flush_failed : (text : List ℕ) (x y z : PrinterState) → Printed text x y → Stopped [] y z → Stopped text x z
+flush_failed text x y z one two = rw (append-nil text) at (stopped_then text [] x y z one two)
+
 -- ---- a text that is printed piece by piece
 
 -- a front of a whole text was printed, and this rest of it is left
@@ -144,6 +145,12 @@ pub part_breaks : {T : Type 0} (r : Result T PrintError) (whole : List ℕ) (sta
 part_breaks r whole start next failed w =
     let p = err_from_is_err_and r failed in
     let is : r ≡ Err error.NoMemory = p.1 ∙ ap (λ (e : PrintError). Err e) p.2 in rw is w
+
+-- the whole failed
+pub part_passed : {T : Type 0} (U : Type 0) (r : Result T PrintError) (e : PrintError) (whole : List ℕ) (start next : PrinterState) → IsErrAnd r (λ x. x ≡ e) → PrintsPart {T = U} (Err e) whole start next
+    → PrintsPart r whole start next
+part_passed U r error.WriteFault whole start next failed w = part_stops r whole start next failed w
+part_passed U r error.NoMemory whole start next failed w = part_breaks r whole start next failed w
 
 -- a piece failed
 pub part_failed : {T : Type 0} (U : Type 0) (r : Result T PrintError) (e : PrintError) (start : PrinterState) (whole piece rest : List ℕ) (now next : PrinterState) → IsErrAnd r (λ x. x ≡ e)

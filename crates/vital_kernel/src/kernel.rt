@@ -1,13 +1,13 @@
 //! A simulation of a network.
 
-ghost use Rattle.std.specs.Prelude.{◌≡◌, ◌-◌, ◌^◌, ◌<◌, ◌≤◌, All, IfOk, OnOk, Some, false, map, true};
+ghost use Rattle.std.specs.Prelude.{◌≡◌, ◌-◌, ◌^◌, ◌<◌, ◌≤◌, [], All, IfOk, OnOk, Some, false, is_err, map, true};
 ghost use Rattle.std.specs.List.Sorted.{IsNonDecreasing};
 ghost use Rattle.vital_agenda.specs.Driver.{AllRise, next_time};
 ghost use Rattle.vital_kernel.specs.Activations.{text_in};
 ghost use Rattle.vital_kernel.specs.Cycles.{cycle_at, first_state, initial_run};
-ghost use Rattle.vital_kernel.specs.Kernels.{GoesOn, IsDriven, begun, begun_text};
+ghost use Rattle.vital_kernel.specs.Kernels.{GoesOn, IsDriven, IsToCome, after_next, begun, begun_text, next_delta, next_text};
 ghost use Rattle.vital_kernel.specs.Lines.{run_lines};
-ghost use Rattle.vital_kernel.specs.Runs.{delta_at, up_to};
+ghost use Rattle.vital_kernel.specs.Runs.{delta_at};
 ghost use Rattle.vital_report.specs.Lines.{text_of};
 ghost use Rattle.vital_report.specs.Reporters.{PrintsPart};
 
@@ -17,8 +17,8 @@ use crate::listeners::Listeners;
 use crate::network::Network;
 use crate::printing::{print_events, print_inits};
 use crate::processes::Processes;
-use crate::run_error::RunError;
-use crate::stimuli::{first_time, hand_due, sooner, stimulus_drivers};
+use crate::run_error::{CycleError, RunError};
+use crate::stimuli::{first_time, hand_due, sooner, stimulus_drivers, up_to};
 use std::alloc::{AllocError, Global};
 use std::marker::Model;
 use vital_agenda::{Agenda, Due};
@@ -45,6 +45,7 @@ pub struct Kernel<'a, A: Agenda> {
     listeners: Listeners,
     delta: u64,
     is_begun: bool,
+    is_given_up: bool,
 }
 
 impl<'a, A: Agenda> Model for Kernel<'a, A> {
@@ -63,6 +64,7 @@ impl<'a, A: Agenda> Model for Kernel<'a, A> {
       network = k.network.now;
       lines = k.lines.now;
       is_begun = k.is_begun;
+      is_given_up = k.is_given_up;
       state = record {
         now = (A.content k.agenda).now;
         delta = k.delta;
@@ -72,17 +74,12 @@ impl<'a, A: Agenda> Model for Kernel<'a, A> {
       };
     }) };
 
-    ghost invariant = { λ k. AreParts (record {
-      network = k.network.now;
-      lines = k.lines.now;
-      is_begun = k.is_begun;
-      state = record {
-        now = (A.content k.agenda).now;
-        delta = k.delta;
-        drivers = (A.content k.agenda).drivers;
-        signals = k.signals.signals;
-        variables = k.processes.variables;
-      };
+    ghost invariant = { λ k. AreParts k.network.now k.lines.now k.is_begun (record {
+      now = (A.content k.agenda).now;
+      delta = k.delta;
+      drivers = (A.content k.agenda).drivers;
+      signals = k.signals.signals;
+      variables = k.processes.variables;
     }) k.stimulus_drivers.items k.left.now k.due.room k.signals k.processes k.listeners };
 }
 
@@ -96,7 +93,7 @@ impl<'a, A: Agenda> Kernel<'a, A> {
     ) -> Result<Kernel<'a, A>, AllocError>
         requires driven { All (IsDriven network.now) lines.now }
         requires in_order { IsNonDecreasing (map (λ line. line.time) lines.now) }
-        ensures { IfOk result (λ k. k ≡ record { network = network.now; lines = lines.now; is_begun = false; state = first_state network.now }) }
+        ensures { IfOk result (λ k. k ≡ record { network = network.now; lines = lines.now; is_begun = false; is_given_up = false; state = first_state network.now }) }
     {
         let initial = first_values(alloc, network)?;
         let signals = first_signals(alloc, network, &initial)?;
@@ -117,20 +114,38 @@ impl<'a, A: Agenda> Kernel<'a, A> {
             listeners,
             delta: 0,
             is_begun: false,
+            is_given_up: false,
         })
+    }
+
+    /// Does the initial run, where it is still to come, or else the next cycle (IEEE 1076-1993, 12.6.4), and prints its lines. Where it
+    /// answers Ok, all lines that were printed so far are written, and nothing is held. After a fault of the sink or want of memory a
+    /// prefix of the lines was printed, and the simulation is given up: no call may go on with it.
+    pub fn cycle<K: Sink>(&mut self, printer: &mut Printer<'_, K>) -> Result<(), CycleError>
+        requires not_given_up { self.old.is_given_up ≡ false }
+        requires to_come { IsToCome self.old }
+        requires delta { self.old.state.delta < 2 ^ 32 - 1 }
+        requires goes_on { printer.old.stopped ≡ false }
+        ensures after { OnOk result (self.new ≡ after_next self.old) }
+        ensures prints { PrintsPart result (next_text self.old) printer.old printer.new }
+        ensures holds_nothing { OnOk result (printer.new.held ≡ []) }
+        ensures given_up { self.new.is_given_up ≡ is_err result }
+    {
+        self.run_next(printer)
     }
 
     /// Goes on with the run up to an end time, which is at most 2^60 fs, where no cycle has a delta number as large as the limit, which is at
     /// least 1, and prints its lines: does the initial run where it is still to come, and then each cycle up to the end time. In a cycle
     /// only the drivers that are due, the signals that these drive, and the processes that are sensitive to a signal with an event are
     /// touched. At the limit it stands before the cycle that would pass it. After a fault of the sink or want of memory a prefix of the
-    /// lines was printed, and the simulation is of no more use.
+    /// lines was printed, and the simulation is given up: no call may go on with it.
     pub fn run_until<K: Sink>(
         &mut self,
         until: Time,
         limit: u64,
         printer: &mut Printer<'_, K>,
     ) -> Result<(), RunError>
+        requires not_given_up { self.old.is_given_up ≡ false }
         requires until { until ≤ 2 ^ 60 }
         requires limit { 1 ≤ limit }
         requires goes_on { printer.old.stopped ≡ false }
@@ -142,14 +157,88 @@ impl<'a, A: Agenda> Kernel<'a, A> {
 
     /// Does the initial run, where it is still to come.
     fn begin<K: Sink>(&mut self, printer: &mut Printer<'_, K>) -> Result<(), PrintError>
-        requires { printer.old.stopped ≡ false }
+        requires not_given_up { self.old.is_given_up ≡ false }
+        requires goes_on { printer.old.stopped ≡ false }
         ensures after { OnOk result (self.new ≡ begun self.old) }
         ensures prints { PrintsPart result (begun_text self.old) printer.old printer.new }
+        ensures given_up { self.new.is_given_up ≡ is_err result }
     {
         if self.is_begun {
             return Ok(());
         }
-        self.run_first(printer)
+        self.run_next(printer)
+    }
+
+    /// Runs the cycles up to an end time.
+    fn run_cycles<K: Sink>(
+        &mut self,
+        until: Time,
+        limit: u64,
+        printer: &mut Printer<'_, K>,
+    ) -> Result<(), RunError>
+        requires not_given_up { self.old.is_given_up ≡ false }
+        requires until { until ≤ 2 ^ 60 }
+        requires begun { self.old.is_begun ≡ true }
+        requires goes_on { printer.old.stopped ≡ false }
+        ensures { GoesOn result until limit self.old self.new printer.old printer.new }
+    {
+        while let Some(time) = up_to(until, self.next_time()) {
+            let delta = self.next_delta(time);
+            if delta >= limit {
+                return Err(RunError::DeltaLimit { time });
+            }
+            self.run_next(printer)?;
+        }
+        Ok(())
+    }
+
+    /// Does the next part of the run, and marks where that failed. `cycle` asks that the present delta number is below 2^32 - 1, whenever the
+    /// next cycle comes. A run up to an end time may stand at that number where the next cycle comes later and counts anew, and its limit may
+    /// be larger. So both do this, which asks for less: that the number of the next cycle can be counted on.
+    fn run_next<K: Sink>(&mut self, printer: &mut Printer<'_, K>) -> Result<(), PrintError>
+        requires not_given_up { self.old.is_given_up ≡ false }
+        requires to_come { IsToCome self.old }
+        requires delta { self.old.is_begun ≡ true → next_delta self.old.state < 2 ^ 64 - 1 }
+        requires goes_on { printer.old.stopped ≡ false }
+        ensures after { OnOk result (self.new ≡ after_next self.old) }
+        ensures prints { PrintsPart result (next_text self.old) printer.old printer.new }
+        ensures holds_nothing { OnOk result (printer.new.held ≡ []) }
+        ensures given_up { self.new.is_given_up ≡ is_err result }
+    {
+        let outcome = self.write_part(printer);
+        self.is_given_up = outcome.is_err();
+        outcome
+    }
+
+    /// Does the next part of the run, and writes all that is held then.
+    fn write_part<K: Sink>(&mut self, printer: &mut Printer<'_, K>) -> Result<(), PrintError>
+        requires to_come { IsToCome self.old }
+        requires delta { self.old.is_begun ≡ true → next_delta self.old.state < 2 ^ 64 - 1 }
+        requires goes_on { printer.old.stopped ≡ false }
+        ensures after { OnOk result (self.new ≡ after_next self.old) }
+        ensures prints { PrintsPart result (next_text self.old) printer.old printer.new }
+        ensures holds_nothing { OnOk result (printer.new.held ≡ []) }
+    {
+        self.run_part(printer)?;
+        printer.flush()?;
+        Ok(())
+    }
+
+    /// Does the next part of the run: the initial run, where it is still to come, or else the next cycle.
+    fn run_part<K: Sink>(&mut self, printer: &mut Printer<'_, K>) -> Result<(), PrintError>
+        requires to_come { IsToCome self.old }
+        requires delta { self.old.is_begun ≡ true → next_delta self.old.state < 2 ^ 64 - 1 }
+        requires goes_on { printer.old.stopped ≡ false }
+        ensures after { OnOk result (self.new ≡ after_next self.old) }
+        ensures prints { PrintsPart result (next_text self.old) printer.old printer.new }
+    {
+        if self.is_begun {
+            let time = self.next_time().unwrap();
+            let delta = self.next_delta(time);
+            self.run_cycle(time, delta, printer)
+        } else {
+            self.run_first(printer)
+        }
     }
 
     /// Does the initial run, where nothing was done before. From it on all lines are to be handed.
@@ -173,37 +262,12 @@ impl<'a, A: Agenda> Kernel<'a, A> {
         )
     }
 
-    /// Runs the cycles up to an end time.
-    fn run_cycles<K: Sink>(
-        &mut self,
-        until: Time,
-        limit: u64,
-        printer: &mut Printer<'_, K>,
-    ) -> Result<(), RunError>
-        requires until { until ≤ 2 ^ 60 }
-        requires begun { self.old.is_begun ≡ true }
-        requires goes_on { printer.old.stopped ≡ false }
-        ensures { GoesOn result until limit self.old self.new printer.old printer.new }
-    {
-        while let Some(time) = self.next_cycle(until) {
-            let delta = self.next_delta(time);
-            if delta >= limit {
-                return Err(RunError::DeltaLimit { time });
-            }
-            self.run_cycle(time, delta, printer)?;
-        }
-        Ok(())
-    }
-
-    /// The time of the next cycle, where it comes up to an end time.
-    fn next_cycle(&self, until: Time) -> Option<Time>
-        ensures next { result ≡ up_to until (next_time self.now.state.drivers) }
+    /// The time of the next cycle, if one is to come.
+    fn next_time(&self) -> Option<Time>
+        ensures next { result ≡ next_time self.now.state.drivers }
         ensures rise { AllRise self.now.state.now self.now.state.drivers }
     {
-        match sooner(self.agenda.next_time(), first_time(self.left)) {
-            Some(time) if time <= until => Some(time),
-            _ => None,
-        }
+        sooner(self.agenda.next_time(), first_time(self.left))
     }
 
     /// The delta number of the next cycle, which comes at a time.

@@ -31,4 +31,4 @@ mod stimuli;
 pub use kernel::Kernel;
 pub use laws::{one_run, one_run_from, port_run, ports_are_a_design};
 pub use network::Network;
-pub use run_error::RunError;
+pub use run_error::{CycleError, RunError};

@@ -1,4 +1,4 @@
-//! Why a run did not come to its end time.
+//! Why a cycle was not done, and why a run did not come to its end time.
 
 ghost use Rattle.std.specs.Prelude.{◌≡◌};
 ghost use Rattle.vital_kernel.specs.declared.run_error.RunError.TheVariants as error;
@@ -7,6 +7,9 @@ ghost use Rattle.vital_kernel.specs.RunErrors.{run_error};
 use std::alloc::AllocError;
 use vital_base::{Time, WriteFault};
 use vital_report::PrintError;
+
+/// Why a cycle was not done: the sink failed, or memory ran out.
+pub type CycleError = PrintError;
 
 /// Why a run did not come to its end time.
 #[derive(Clone, Copy, PartialEq, Eq)]

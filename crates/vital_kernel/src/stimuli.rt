@@ -5,6 +5,7 @@ ghost use Rattle.std.specs.List.{list_any, position_or_len, prefix_len};
 ghost use Rattle.vital_agenda.specs.Driver.{next_time, sooner as sooner'};
 ghost use Rattle.vital_kernel.specs.Activations.{KeepsValues};
 ghost use Rattle.vital_kernel.specs.Handing.{AreLeft, AreStimulusDrivers, due_lines, first_time as first_time', later_lines, with_lines};
+ghost use Rattle.vital_kernel.specs.Runs.{up_to as up_to'};
 
 use crate::network::Network;
 use std::alloc::{AllocError, Global};
@@ -43,6 +44,16 @@ pub(crate) fn sooner(time: Option<Time>, other: Option<Time>) -> Option<Time>
         (Some(time), Some(other)) => Some(time.min(other)),
         (Some(time), None) => Some(time),
         (None, other) => other,
+    }
+}
+
+/// A time that may be missing, where it is not after the end time.
+pub(crate) fn up_to(until: Time, time: Option<Time>) -> Option<Time>
+    ensures { result ≡ up_to' until time }
+{
+    match time {
+        Some(time) if time <= until => Some(time),
+        _ => None,
     }
 }
 

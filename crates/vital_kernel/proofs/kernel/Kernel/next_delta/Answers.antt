@@ -1,7 +1,7 @@
 use Rattle.std.proofs.Common.{ap, ◌∙◌, arith}
 use Rattle.vital_kernel.specs.Kernels.{Simulation}
 use Rattle.vital_kernel.specs.Runs.{delta_at}
-use Rattle.vital_kernel.proofs.RunLemmas.{delta_anew, delta_more}
+use Rattle.vital_kernel.proofs.PartLemmas.{delta_anew, delta_more}
 use Rattle.vital_kernel.proofs.kernel.Kernel.next_delta.Goals as goal
 
 pub overflow_add-result : goal.overflow_add-result

@@ -120,7 +120,7 @@ invariant_of-self-in_err-print_events g c =
     let later = c.in_ok-self-inside.field-0.now in
     let start = g.A.Agenda.content c.self.inside.agenda in
     let hand : Handed n c.args.time c.args.delta c.self.inside.delta numbers left later start old s ps =
-    handed n lines c.self.inside.is_begun c.args.time c.args.delta c.self.inside.delta c.self.inside.due.room numbers left later start old s ps c.self.inside.listeners c.args.self.now c.self.invariant c.self.view_is
+    handed n lines c.self.inside.is_begun c.args.time c.args.delta c.self.inside.delta c.self.inside.due.room numbers left later start old s ps c.self.inside.listeners c.args.self.now.state c.self.invariant (ap (λ (k : Simulation). k.state) c.self.view_is)
     c.requires.next c.requires.rise c.signals-watched.ensures.sound c.in_ok-self-inside.ensures.left (subst (λ (xs : List ℕ). with_lines xs later old.drivers ≡ with_lines xs left start.drivers) c.deref.ensures.value c.in_ok-self-inside.ensures.same)
     c.in_ok-self-inside.ensures.keeps.now in
     next_parts n lines left later c.self.inside.is_begun c.self.inside.delta c.args.delta c.self.inside.due.room c.advance.new.due.room numbers start new s t ps ps
@@ -171,7 +171,7 @@ returns-in_err-print_events-clause-prints g c =
     let later = c.in_ok-self-inside.field-0.now in
     let start = g.A.Agenda.content c.self.inside.agenda in
     let hand : Handed n c.args.time c.args.delta c.self.inside.delta numbers left later start old s ps =
-    handed n lines c.self.inside.is_begun c.args.time c.args.delta c.self.inside.delta c.self.inside.due.room numbers left later start old s ps c.self.inside.listeners c.args.self.now c.self.invariant c.self.view_is
+    handed n lines c.self.inside.is_begun c.args.time c.args.delta c.self.inside.delta c.self.inside.due.room numbers left later start old s ps c.self.inside.listeners c.args.self.now.state c.self.invariant (ap (λ (k : Simulation). k.state) c.self.view_is)
     c.requires.next c.requires.rise c.signals-watched.ensures.sound c.in_ok-self-inside.ensures.left (subst (λ (xs : List ℕ). with_lines xs later old.drivers ≡ with_lines xs left start.drivers) c.deref.ensures.value c.in_ok-self-inside.ensures.same)
     c.in_ok-self-inside.ensures.keeps.now in
     let same : text_in n (cycle_at n c.args.time c.args.delta st).happened ≡ text_in n (cycle_at n c.args.time c.args.delta (state_with numbers left (state_of start c.self.inside.delta s.signals ps.variables))).happened =
@@ -216,7 +216,7 @@ run_some-requires-clause-can_run g c =
     let later = c.in_ok-self-inside.field-0.now in
     let start = g.A.Agenda.content c.self.inside.agenda in
     let hand : Handed n c.args.time c.args.delta c.self.inside.delta numbers left later start old s ps =
-    handed n lines c.self.inside.is_begun c.args.time c.args.delta c.self.inside.delta c.self.inside.due.room numbers left later start old s ps c.self.inside.listeners c.args.self.now c.self.invariant c.self.view_is
+    handed n lines c.self.inside.is_begun c.args.time c.args.delta c.self.inside.delta c.self.inside.due.room numbers left later start old s ps c.self.inside.listeners c.args.self.now.state c.self.invariant (ap (λ (k : Simulation). k.state) c.self.view_is)
     c.requires.next c.requires.rise c.signals-watched.ensures.sound c.in_ok-self-inside.ensures.left (subst (λ (xs : List ℕ). with_lines xs later old.drivers ≡ with_lines xs left start.drivers) c.deref.ensures.value c.in_ok-self-inside.ensures.same)
     c.in_ok-self-inside.ensures.keeps.now in
     can_run n new t ps defaults signals_of c.update.ensures.current inv.network (omega (arith, inv.latest, hand.above, at)) (omega (arith, at, c.requires.time))
@@ -252,7 +252,7 @@ invariant_of-self-2 g c =
     let later = c.in_ok-self-inside.field-0.now in
     let start = g.A.Agenda.content c.self.inside.agenda in
     let hand : Handed n c.args.time c.args.delta c.self.inside.delta numbers left later start old s ps =
-    handed n lines c.self.inside.is_begun c.args.time c.args.delta c.self.inside.delta c.self.inside.due.room numbers left later start old s ps c.self.inside.listeners c.args.self.now c.self.invariant c.self.view_is
+    handed n lines c.self.inside.is_begun c.args.time c.args.delta c.self.inside.delta c.self.inside.due.room numbers left later start old s ps c.self.inside.listeners c.args.self.now.state c.self.invariant (ap (λ (k : Simulation). k.state) c.self.view_is)
     c.requires.next c.requires.rise c.signals-watched.ensures.sound c.in_ok-self-inside.ensures.left (subst (λ (xs : List ℕ). with_lines xs later old.drivers ≡ with_lines xs left start.drivers) c.deref.ensures.value c.in_ok-self-inside.ensures.same)
     c.in_ok-self-inside.ensures.keeps.now in
     let next = g.A.Agenda.content c.run_some.new.agenda in
@@ -301,11 +301,11 @@ returns-clause-after g c =
     let later = c.in_ok-self-inside.field-0.now in
     let start = g.A.Agenda.content c.self.inside.agenda in
     let hand : Handed n c.args.time c.args.delta c.self.inside.delta numbers left later start old s ps =
-    handed n lines c.self.inside.is_begun c.args.time c.args.delta c.self.inside.delta c.self.inside.due.room numbers left later start old s ps c.self.inside.listeners c.args.self.now c.self.invariant c.self.view_is
+    handed n lines c.self.inside.is_begun c.args.time c.args.delta c.self.inside.delta c.self.inside.due.room numbers left later start old s ps c.self.inside.listeners c.args.self.now.state c.self.invariant (ap (λ (k : Simulation). k.state) c.self.view_is)
     c.requires.next c.requires.rise c.signals-watched.ensures.sound c.in_ok-self-inside.ensures.left (subst (λ (xs : List ℕ). with_lines xs later old.drivers ≡ with_lines xs left start.drivers) c.deref.ensures.value c.in_ok-self-inside.ensures.same)
     c.in_ok-self-inside.ensures.keeps.now in
     let view : Simulation =
-    simulation_with numbers later (record { network = n; lines = lines; is_begun = c.self.inside.is_begun; state = state_of next c.args.delta t.signals c.run_some.new.processes.variables }) in
+    simulation_with numbers later (record { network = n; lines = lines; is_begun = c.self.inside.is_begun; is_given_up = c.self.inside.is_given_up; state = state_of next c.args.delta t.signals c.run_some.new.processes.variables }) in
     subst (λ (k : Simulation). OnOk c.run_some.result (view ≡ (let it : Simulation = record k { state = (cycle_at k.network c.args.time c.args.delta k.state).state } in it))) c.self.view_is
     (on_ok c.run_some.result c.run_some.ensures.activates.state (λ e.
     ap (λ (x : State). let it : Simulation = record view { state = x } in it) (ap (state_with numbers later) (e ∙ part.state) ∙ sym (ap (λ (x : Part). x.state) hand.cycle))))
@@ -350,7 +350,7 @@ returns-clause-prints g c =
     let later = c.in_ok-self-inside.field-0.now in
     let start = g.A.Agenda.content c.self.inside.agenda in
     let hand : Handed n c.args.time c.args.delta c.self.inside.delta numbers left later start old s ps =
-    handed n lines c.self.inside.is_begun c.args.time c.args.delta c.self.inside.delta c.self.inside.due.room numbers left later start old s ps c.self.inside.listeners c.args.self.now c.self.invariant c.self.view_is
+    handed n lines c.self.inside.is_begun c.args.time c.args.delta c.self.inside.delta c.self.inside.due.room numbers left later start old s ps c.self.inside.listeners c.args.self.now.state c.self.invariant (ap (λ (k : Simulation). k.state) c.self.view_is)
     c.requires.next c.requires.rise c.signals-watched.ensures.sound c.in_ok-self-inside.ensures.left (subst (λ (xs : List ℕ). with_lines xs later old.drivers ≡ with_lines xs left start.drivers) c.deref.ensures.value c.in_ok-self-inside.ensures.same)
     c.in_ok-self-inside.ensures.keeps.now in
     let same : text_in n (cycle_at n c.args.time c.args.delta st).happened ≡ text_in n (cycle_at n c.args.time c.args.delta (state_with numbers left (state_of start c.self.inside.delta s.signals ps.variables))).happened =

@@ -117,7 +117,7 @@ returns-clause-after g c =
     let first : st ≡ first_state n = (inv.first unbegun).0 in
     let is = is_first n numbers lines st c.signals.ensures.sound inv.stimulated inv.driven inv.in_order first in
     let view : Simulation =
-    simulation_with numbers lines (record { network = n; lines = lines; is_begun = true; state = state_of (g.A.Agenda.content c.run_all.new.agenda) c.self.inside.delta s.signals c.run_all.new.processes.variables }) in
+    simulation_with numbers lines (record { network = n; lines = lines; is_begun = true; is_given_up = c.self.inside.is_given_up; state = state_of (g.A.Agenda.content c.run_all.new.agenda) c.self.inside.delta s.signals c.run_all.new.processes.variables }) in
     subst (λ (k : Simulation). OnOk c.run_all.result (view ≡ (let it : Simulation = record k { is_begun = true; state = (initial_run k.network k.lines).state } in it))) c.self.view_is
     (on_ok c.run_all.result c.run_all.ensures.activates.state (λ e.
     ap (λ (x : State). let it : Simulation = record view { state = x } in it) (ap (state_with numbers lines) e ∙ is.state)))

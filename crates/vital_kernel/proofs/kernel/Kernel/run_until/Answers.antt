@@ -5,7 +5,10 @@ use Rattle.vital_kernel.proofs.kernel.Kernel.run_until.Goals as goal
 
 pub returns-in_err-begin : goal.returns-in_err-begin
 returns-in_err-begin g c =
-    begin_failed c.from_residual.result _ c.args.until c.args.limit c.args.self.now c.begin.new.self c.args.printer.now c.begin.new.printer c.requires.goes_on c.from_residual.ensures.1 c.in_err-begin.ensures.prints
+    begin_failed c.from_residual.result _ c.args.until c.args.limit c.args.self.now c.begin.new.self c.args.printer.now c.begin.new.printer c.requires.goes_on c.in_err-begin.ensures.given_up c.from_residual.ensures.1 c.in_err-begin.ensures.prints
+
+pub run_cycles-requires-clause-not_given_up : goal.run_cycles-requires-clause-not_given_up
+run_cycles-requires-clause-not_given_up g c = c.in_ok-begin.ensures.given_up
 
 pub run_cycles-requires-clause-begun : goal.run_cycles-requires-clause-begun
 run_cycles-requires-clause-begun g c = ap (λ (k : Simulation). k.is_begun) c.in_ok-begin.ensures.after ∙ begun_is_begun c.args.self.now

@@ -57,5 +57,5 @@ returns g c =
     let content = g.A.Agenda.content c.in_ok-agenda.agenda in
     let given : c.as_slice.result.now ≡ c.deref.result.now = c.as_slice.ensures.value ∙ sym c.deref.ensures.value in
     let is : content ≡ idle c.deref.result.now = c.in_ok-agenda.ensures ∙ ap idle given in
-    ap (λ (x : State). let it : Simulation = record { network = n; lines = c.args.lines.now; is_begun = false; state = x } in it)
+    ap (λ (x : State). let it : Simulation = record { network = n; lines = c.args.lines.now; is_begun = false; is_given_up = false; state = x } in it)
     (starts n content c.in_ok-signals.signals c.in_ok-processes.processes c.deref.result.now (c.deref.ensures.value ∙ c.in_ok-initial.ensures) is c.in_ok-signals.ensures.first c.in_ok-processes.ensures.first)
