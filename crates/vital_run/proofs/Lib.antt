@@ -6,6 +6,7 @@ pub mod Running
 pub mod Loaded
 pub mod OneRun
 pub mod OneAnswer
+pub mod Selves
 pub mod Rows
 pub mod FilesRead
 pub mod Parts

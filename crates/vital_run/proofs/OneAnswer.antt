@@ -1,6 +1,7 @@
 -- Words and files have one answer, since each text has one reading.
 use Rattle.std.proofs.Common.{◌≡◌, ℕ, ◌+◌, ◌-◌, List, [], ◌∷◌, map, Option, Some, None, Result, Ok, Err, refl, sym, ap, subst, ◌∙◌}
 use Rattle.std.specs.List.{slice_get}
+use Rattle.vital_base.proofs.Appending.{appended-nil}
 use Rattle.vital_base.specs.Shelves.{Files}
 use Rattle.vital_base.specs.Sinks.{Told}
 use Rattle.vital_base.specs.declared.place.Place.{Place}
@@ -20,15 +21,15 @@ use Rattle.vital_library.specs.declared.error.TheConstants.{MOST_UNITS}
 use Rattle.vital_library.specs.declared.fault.Fault.{Fault}
 use Rattle.vital_library.specs.declared.fault.FaultKind.{FaultKind}
 use Rattle.vital_library.specs.declared.fault.FaultKind.TheVariants.{Duplicate, NoEntity}
-use Rattle.vital_report.specs.declared.line.LibraryWhy.TheVariants as why
-use Rattle.vital_report.specs.declared.line.Limit.TheVariants.{Delay as DelayLimit, Units as UnitsLimit}
+use Rattle.vital_report.specs.declared.why.LibraryWhy.TheVariants as why
+use Rattle.vital_report.specs.declared.why.Limit.TheVariants.{Delay as DelayLimit, Units as UnitsLimit}
 use Rattle.vital_report.specs.Lines.{text_of}
 use Rattle.vital_stim.specs.Stimuli.{stim}
 use Rattle.vital_stim.specs.declared.fault.StimFault.{StimFault}
 use Rattle.vital_stim.specs.declared.stimuli.StimLine.{StimLine}
 use Rattle.vital_stim.specs.declared.stimuli.Stimuli.{Stimuli}
 use Rattle.vital_timing.specs.declared.delay.Delay.{Delay}
-use Rattle.vital_run.specs.Answer.{Answer, ◌>>=◌, not_there}
+use Rattle.vital_run.specs.Answer.{Answer, ◌>>=◌, not_there, nothing_told}
 use Rattle.vital_run.specs.Cells.{IsCellsAnswer, cells, cells_answer}
 use Rattle.vital_run.specs.Designs.{IsElaboratedAnswer, IsUnderAnswer, refused_design}
 use Rattle.vital_run.specs.Loading.{all_loaded}
@@ -37,8 +38,9 @@ use Rattle.vital_annotate.specs.Annotations.{Outcome, annotated}
 use Rattle.vital_run.specs.Reading.{AreRead, Continues, IsOfEntries, IsOfUnits, IsRead, IsSdfRead, IsVhdlRead, tokens_of, with_file}
 use Rattle.vital_run.specs.Refusals.{refused_words, printed_fault, text_refusal, IsFileRefusal, IsSdfRefusal, refused_at, IsLibraryRefusal}
 use Rattle.vital_run.specs.Runs.{IsRunAnswer}
+use Rattle.vital_run.specs.Selves.{drawn_by, self_answer, self_job, self_sources}
 use Rattle.vital_run.specs.Simulations.{IsAnnotatedAnswer, IsSimAnswer, IsStimulatedAnswer, before, note_line, simulated}
-use Rattle.vital_run.specs.Stages.{IsPlayAnswer, IsSimulatedAnswer, IsTaskAnswer, IsLibraryAnswer, IsReadAnswer, IsLoadedAnswer, IsJobAnswer, IsOnlyAnswer}
+use Rattle.vital_run.specs.Stages.{IsPlayAnswer, IsSimulatedAnswer, IsTaskAnswer, IsLibraryAnswer, IsReadAnswer, IsLoadedAnswer, IsSelfAnswer, IsAskedAnswer, IsJobAnswer, IsOnlyAnswer}
 use Rattle.vital_run.specs.Stimuli.{IsStimuliAnswer, IsReadStimuliAnswer, refused_stimuli}
 use Rattle.vital_run.specs.Trees.{IsTreeAnswer, tree_lines}
 use Rattle.vital_run.specs.declared.loading.Source.{Source}
@@ -53,7 +55,6 @@ use Rattle.vital_run.proofs.Checked.{is_answer}
 use Rattle.vital_run.proofs.Elaborated.{elaborated_by}
 use Rattle.vital_run.proofs.Judged.{some_finding}
 use Rattle.vital_run.proofs.OneRun.{OneRun, only_told, run_told, stimuli_told, told_of, told_of_stimuli}
-use Rattle.vital_run.proofs.Texts.{appended-nil}
 use Rattle.vital_sdf.specs.Outcomes as sdf
 use Rattle.vital_sdf.specs.declared.group.SdfFile.{SdfFile}
 use Rattle.vital_sdf.specs.declared.read.SdfError.{SdfError}
@@ -68,9 +69,10 @@ use Rattle.vital_nodes.specs.declared.unit.Units.{Units}
 use Rattle.vital_words.specs.Jobs.{job}
 use Rattle.vital_words.specs.declared.job.Job.{Job}
 use Rattle.vital_words.specs.declared.job.NamedFile.{NamedFile}
+use Rattle.vital_words.specs.declared.job.SelfRun.{SelfRun as SelfRun'}
 use Rattle.vital_words.specs.declared.job.Sim.{Sim as Sim'}
 use Rattle.vital_words.specs.declared.job.Task.{Task}
-use Rattle.vital_words.specs.declared.job.Task.TheVariants.{Play, Check, Tree, Sim}
+use Rattle.vital_words.specs.declared.job.Task.TheVariants.{Play, Check, Tree, Sim, SelfRun}
 use Rattle.vital_words.specs.declared.key.FileKind.{FileKind}
 use Rattle.vital_words.specs.declared.key.FileKind.TheVariants as kinds
 use Rattle.vital_words.specs.declared.refusal.UsageFault.{UsageFault}
@@ -250,6 +252,7 @@ one_task_answer laws (Play play) files sources delays library = one_play_answer 
 one_task_answer laws Check files sources delays library = one_cells_answer laws.first files library
 one_task_answer laws (Tree tree) files sources delays library = one_under_answer laws.judge IsTreeAnswer one_tree_answer files library tree.top
 one_task_answer laws (Sim sim) files sources delays library = one_simulated_answer laws sim files delays library (slice_get files sim.stim) (slice_get sources sim.stim)
+one_task_answer laws (SelfRun run) files sources delays library = one_is nothing_told
 
 one_library_refusal : (error : LibraryError) → (error ≡ library.NoMemory → ⊥) → IsOne (IsLibraryRefusal error)
 one_library_refusal (library.TooManyUnits place) some = one_is (refusals.Limit UnitsLimit place)
@@ -276,8 +279,17 @@ one_loaded_answer laws job (Err e) = one_is e
 
 -- ---- one answer to words
 
+one_self_answer : Laws → (run : SelfRun') → IsOne (IsSelfAnswer run)
+one_self_answer laws run =
+    let p = one_loaded_answer laws self_job (Ok (self_sources run)) in
+    (self_answer run p.0, (p.0, p.1, refl), λ other o. o.2 ∙ ap (self_answer run) (p.2 o.0 o.1))
+
+one_asked_answer : Laws → (files : Files) (job : Job) (asked : Option SelfRun') → IsOne (IsAskedAnswer files job asked)
+one_asked_answer laws files job (Some run) = one_self_answer laws run
+one_asked_answer laws files job None = one_loaded_answer laws job (all_loaded files job.files)
+
 one_job_answer : Laws → (files : Files) (j : Result Job UsageFault) → IsOne (IsJobAnswer files j)
-one_job_answer laws files (Ok job) = one_loaded_answer laws job (all_loaded files job.files)
+one_job_answer laws files (Ok job) = one_asked_answer laws files job (drawn_by job.task)
 one_job_answer laws files (Err fault) = one_is (refused_words fault)
 
 -- what is given for every answer is given for the one that there is

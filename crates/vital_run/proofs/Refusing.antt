@@ -2,10 +2,10 @@
 use Rattle.std.proofs.Common.{◌≡◌, List, Result, Ok, Err, refl, subst}
 use Rattle.vital_base.specs.declared.place.Place.{Place}
 use Rattle.vital_report.specs.Lines.{Spot, refused_lexical, refused_syntax, refused_limit, refused_library, refused_sdf}
-use Rattle.vital_report.specs.declared.line.LexicalWhy.{LexicalWhy}
-use Rattle.vital_report.specs.declared.line.LibraryWhy.{LibraryWhy}
-use Rattle.vital_report.specs.declared.line.Limit.{Limit as Limit'}
-use Rattle.vital_report.specs.declared.line.SdfWhy.{SdfWhy}
+use Rattle.vital_report.specs.declared.why.LexicalWhy.{LexicalWhy}
+use Rattle.vital_report.specs.declared.why.LibraryWhy.{LibraryWhy}
+use Rattle.vital_report.specs.declared.why.Limit.{Limit as Limit'}
+use Rattle.vital_report.specs.declared.why.SdfWhy.{SdfWhy}
 use Rattle.vital_run.specs.Answer.{Answer, refused}
 use Rattle.vital_run.specs.Reading.{AreRead}
 use Rattle.vital_run.specs.Refusals.{spot_of, place_of, refused_at}

@@ -10,12 +10,14 @@ use Rattle.vital_agenda.specs.Driver.{Driver, pending_after, send}
 use Rattle.vital_stim.specs.declared.stimuli.StimLine.{StimLine}
 use Rattle.vital_agenda.specs.declared.transaction.Transaction.{Transaction}
 use Rattle.vital_kernel.specs.Lines.{run_lines}
-use Rattle.vital_report.specs.Lines.{event, init, line_of, text_of}
+use Rattle.vital_report.specs.Lines.{end, event, events, init, line_of, messages, self_head, text_of}
 use Rattle.vital_kernel.specs.PortNetworks.{port_network}
 use Rattle.vital_kernel.specs.Runs.{whole_run}
 use Rattle.vital_run.specs.Answer.{Answer}
 use Rattle.vital_run.specs.Runs.{run_answer}
+use Rattle.vital_run.specs.Selves.{last_text, self_answer}
 use Rattle.vital_run.specs.declared.status.Status.TheVariants.{DeltaLimit, Done}
+use Rattle.vital_words.specs.declared.job.SelfRun.{SelfRun}
 
 abbrev at : ℕ → Level → Transaction
 at time value = record { time = time; value = value }
@@ -91,3 +93,28 @@ a_run_ends_before_the_limit :
       status = DeltaLimit;
     })
 a_run_ends_before_the_limit = refl
+
+-- ---- what `self` tells
+
+abbrev drawn : SelfRun
+drawn = record { seed = 7; cells = 3 }
+
+-- the last of two lines
+last_line_is_cut_out : last_text (codes "refused syntax a 1 2\nend 5\n") ≡ codes "end 5"
+last_line_is_cut_out = refl
+
+one_line_is_the_last : last_text (codes "end 5\n") ≡ codes "end 5"
+one_line_is_the_last = refl
+
+nothing_has_an_empty_last_line : last_text [] ≡ []
+nothing_has_an_empty_last_line = refl
+
+-- events and glitches are counted, and other lines are not
+a_run_is_counted : self_answer drawn (record { bytes = codes "vital 1\nevent 0 1 i0 0\nglitch 5 0 u1 Y\nevent 5 0 n1 X\nend 9\n"; status = Done })
+    ≡ record { bytes = text_of (self_head 7 3 ∷ events 2 ∷ messages 1 ∷ end 40_000_000 ∷ []); status = Done }
+a_run_is_counted = refl
+
+-- a refusal is told by its own line and status
+a_refusal_is_told : self_answer drawn (record { bytes = codes "vital 1\nevent 0 1 i0 0\nrefused delta 5 1000\n"; status = DeltaLimit })
+    ≡ record { bytes = codes "refused delta 5 1000\n"; status = DeltaLimit }
+a_refusal_is_told = refl

@@ -4,16 +4,9 @@ use Rattle.std.proofs.Math.Seq.{take-append_seam}
 use Rattle.std.proofs.lemmas.Bool.{false≢true}
 use Rattle.std.proofs.lemmas.List.{append-nil, take-append-drop}
 use Rattle.vital_base.specs.Faults.{Rose}
-use Rattle.vital_base.specs.Sinks.{Told, got as bytes, untold, appended, AppendsPrefix}
+use Rattle.vital_base.proofs.Appending.{appended-appended, appended-nil}
+use Rattle.vital_base.specs.Sinks.{Told, appended, AppendsPrefix}
 use Rattle.vital_report.specs.Reporters.{PrinterState, Printed, Stopped}
-
-appended-appended : (told : Told) (xs ys : List ℕ) → appended (appended told xs) ys ≡ appended told (xs ++ ys)
-appended-appended untold xs ys = refl
-appended-appended (bytes before) xs ys = ap bytes (append_assoc before xs ys)
-
-pub appended-nil : (told : Told) → appended told [] ≡ told
-appended-nil untold = refl
-appended-nil (bytes before) = ap bytes (append-nil before)
 
 -- a part of a text was appended, and the rest was not
 pub appends_part : (told new : Told) (part rest text : List ℕ) → new ≡ appended told part → part ++ rest ≡ text → AppendsPrefix told text new

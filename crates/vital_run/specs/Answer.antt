@@ -2,7 +2,7 @@
 use Rattle.std.specs.Prelude.{ℕ, List, [], Result, Ok, Err}
 use Rattle.vital_report.specs.Lines.{Said, bytes_of}
 use Rattle.vital_run.specs.declared.status.Status.{Status}
-use Rattle.vital_run.specs.declared.status.Status.TheVariants.{ReadFault}
+use Rattle.vital_run.specs.declared.status.Status.TheVariants.{Done, ReadFault}
 
 pub record Answer : Type 0 where
   pub bytes : List ℕ
@@ -21,3 +21,7 @@ refused line status = record { bytes = bytes_of line; status = status }
 -- A file that isn't there: nothing is written.
 abbrev pub not_there : Answer
 not_there = record { bytes = []; status = ReadFault }
+
+-- Nothing is written, and all is well.
+abbrev pub nothing_told : Answer
+nothing_told = record { bytes = []; status = Done }

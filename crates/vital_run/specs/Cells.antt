@@ -16,8 +16,8 @@ use Rattle.vital_nodes.specs.declared.unit.Arch.{Arch}
 use Rattle.vital_nodes.specs.declared.unit.Entity.{Entity}
 use Rattle.vital_nodes.specs.declared.unit.Units.{Units}
 use Rattle.vital_report.specs.Lines.{Said, cell_broken, cell_level1, refused_limit, text_of}
-use Rattle.vital_report.specs.declared.line.Limit.{Limit as Limit'}
-use Rattle.vital_report.specs.declared.line.Limit.TheVariants.{Ports, Rows, Columns, Paths, Delay}
+use Rattle.vital_report.specs.declared.why.Limit.{Limit as Limit'}
+use Rattle.vital_report.specs.declared.why.Limit.TheVariants.{Ports, Rows, Columns, Paths, Delay}
 use Rattle.vital_run.specs.Answer.{Answer}
 use Rattle.vital_run.specs.Refusals.{spot_of}
 use Rattle.vital_run.specs.declared.status.Status.{Status}

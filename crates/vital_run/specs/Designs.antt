@@ -9,9 +9,9 @@ use Rattle.vital_netlist.specs.Refusals.{Mark, NetFault, Refusal, Net, Limit, re
 use Rattle.vital_netlist.specs.Refusals as net
 use Rattle.vital_nodes.specs.declared.unit.Units.{Units}
 use Rattle.vital_report.specs.Lines.{Said, Spot, refused_cell, refused_limit, refused_netlist}
-use Rattle.vital_report.specs.declared.line.Limit.TheVariants as printed_limit
-use Rattle.vital_report.specs.declared.line.NetlistWhy.{NetlistWhy}
-use Rattle.vital_report.specs.declared.line.NetlistWhy.TheVariants as why
+use Rattle.vital_report.specs.declared.why.Limit.TheVariants as printed_limit
+use Rattle.vital_report.specs.declared.why.NetlistWhy.{NetlistWhy}
+use Rattle.vital_report.specs.declared.why.NetlistWhy.TheVariants as why
 use Rattle.vital_run.specs.Answer.{Answer, refused}
 use Rattle.vital_run.specs.Cells.{limit_line}
 use Rattle.vital_run.specs.Refusals.{spot_of}

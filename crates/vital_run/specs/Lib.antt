@@ -10,6 +10,7 @@ pub mod Designs
 pub mod Trees
 pub mod Simulations
 pub mod Kept
+pub mod Selves
 pub mod Stages
 pub mod Given
 pub mod Outcome

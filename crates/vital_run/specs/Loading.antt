@@ -2,13 +2,15 @@
 use Rattle.std.specs.Prelude.{ℕ, ◌≡◌, ◌≤◌, ◌+◌, ◌*◌, Bool, true, false, List, [], ◌∷◌, ◌++◌, length, map, take, nat_le, Option, Some, None, IfSome, IsSomeAnd, Result, Ok, Err, if◌then◌else◌}
 use Rattle.vital_base.specs.Shelves.{Files, History}
 use Rattle.vital_report.specs.Lines.{refused_limit}
-use Rattle.vital_report.specs.declared.line.Limit.TheVariants.{File}
+use Rattle.vital_report.specs.declared.why.Limit.TheVariants.{File}
 use Rattle.vital_run.specs.Answer.{Answer, ◌>>=◌, refused, not_there}
+use Rattle.vital_run.specs.Selves.{drawn_by}
 use Rattle.vital_run.specs.declared.loading.Source.{Source}
 use Rattle.vital_run.specs.declared.status.Status.{Status}
-use Rattle.vital_run.specs.declared.status.Status.TheVariants.{Done, Found, Syntax, Limit, Library, Netlist, Sdf, Stimulus}
+use Rattle.vital_run.specs.declared.status.Status.TheVariants.{Done, Found, Syntax, Limit, Library, Netlist, Sdf, Stimulus, DeltaLimit}
 use Rattle.vital_words.specs.declared.job.Job.{Job}
 use Rattle.vital_words.specs.declared.job.NamedFile.{NamedFile}
+use Rattle.vital_words.specs.declared.job.SelfRun.{SelfRun}
 use Rattle.vital_words.specs.declared.refusal.UsageFault.{UsageFault}
 
 -- A file that is too long is refused with no place in it.
@@ -51,6 +53,7 @@ follows_loading Library = true
 follows_loading Netlist = true
 follows_loading Sdf = true
 follows_loading Stimulus = true
+follows_loading DeltaLimit = true
 follows_loading other = false
 
 -- Of the files of a job the first ones were opened: all of them where the status comes only where all were loaded.
@@ -58,7 +61,12 @@ abbrev pub OpensFiles : List NamedFile → Status → Option History → Option 
 OpensFiles files status old new =
     (count : ℕ) × Opens files count old new × (follows_loading status ≡ true → count ≡ length files)
 
--- The files of a job; words that are refused name none.
+-- The files that are asked of the shelf: those of a job, and none where `self` draws them.
+abbrev pub asked_files : Option SelfRun → List NamedFile → List NamedFile
+asked_files (Some run) files = []
+asked_files None files = files
+
+-- The same of words; those that are refused ask for none.
 abbrev pub files_of : Result Job UsageFault → List NamedFile
-files_of (Ok job) = job.files
+files_of (Ok job) = asked_files (drawn_by job.task) job.files
 files_of (Err fault) = []

@@ -9,14 +9,14 @@ use Rattle.vital_lex.specs.declared.faults.Why.TheVariants as lexical
 use Rattle.vital_library.specs.declared.error.LibraryError.{LibraryError}
 use Rattle.vital_library.specs.declared.error.LibraryError.TheVariants as library
 use Rattle.vital_report.specs.Lines.{Spot, refused_usage, refused_lexical, refused_syntax, refused_limit, refused_library, refused_sdf}
-use Rattle.vital_report.specs.declared.line.LexicalWhy.{LexicalWhy}
-use Rattle.vital_report.specs.declared.line.LexicalWhy.TheVariants.{Character, Unclosed}
-use Rattle.vital_report.specs.declared.line.LibraryWhy.TheVariants.{Duplicate, Entity as NoEntity}
-use Rattle.vital_report.specs.declared.line.Limit.TheVariants.{Tokens, Nesting, Units as UnitsLimit}
-use Rattle.vital_report.specs.declared.line.SdfWhy.{SdfWhy}
-use Rattle.vital_report.specs.declared.line.SdfWhy.TheVariants as printed_sdf
-use Rattle.vital_report.specs.declared.line.UsageWhy.{UsageWhy}
-use Rattle.vital_report.specs.declared.line.UsageWhy.TheVariants.{Command, Key, Twice, Value, Missing}
+use Rattle.vital_report.specs.declared.why.LexicalWhy.{LexicalWhy}
+use Rattle.vital_report.specs.declared.why.LexicalWhy.TheVariants.{Character, Unclosed}
+use Rattle.vital_report.specs.declared.why.LibraryWhy.TheVariants.{Duplicate, Entity as NoEntity}
+use Rattle.vital_report.specs.declared.why.Limit.TheVariants.{Tokens, Nesting, Units as UnitsLimit}
+use Rattle.vital_report.specs.declared.why.SdfWhy.{SdfWhy}
+use Rattle.vital_report.specs.declared.why.SdfWhy.TheVariants as printed_sdf
+use Rattle.vital_report.specs.declared.why.UsageWhy.{UsageWhy}
+use Rattle.vital_report.specs.declared.why.UsageWhy.TheVariants.{Command, Key, Twice, Value, Missing}
 use Rattle.vital_run.specs.Answer.{Answer, refused}
 use Rattle.vital_run.specs.declared.refusal.Refusal.{Refusal}
 use Rattle.vital_run.specs.declared.refusal.Refusal.TheVariants as refusal

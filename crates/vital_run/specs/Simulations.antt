@@ -8,9 +8,9 @@ use Rattle.vital_netlist.specs.Designs.{Design}
 use Rattle.vital_kernel.specs.DesignNetworks.{network}
 use Rattle.vital_kernel.specs.Networks.{Network}
 use Rattle.vital_report.specs.Lines.{Said, note, text_of}
-use Rattle.vital_report.specs.declared.line.Limit.TheVariants.{Delay as DelayLimit}
-use Rattle.vital_report.specs.declared.line.NoteWhy.{NoteWhy as PrintedWhy}
-use Rattle.vital_report.specs.declared.line.NoteWhy.TheVariants as printed
+use Rattle.vital_report.specs.declared.why.Limit.TheVariants.{Delay as DelayLimit}
+use Rattle.vital_report.specs.declared.why.NoteWhy.{NoteWhy as PrintedWhy}
+use Rattle.vital_report.specs.declared.why.NoteWhy.TheVariants as printed
 use Rattle.vital_sdf.specs.declared.group.SdfFile.{SdfFile}
 use Rattle.vital_stim.specs.Stimuli.{stim}
 use Rattle.vital_stim.specs.declared.fault.StimFault.{StimFault}

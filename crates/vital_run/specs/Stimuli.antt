@@ -4,8 +4,8 @@ use Rattle.vital_kernel.specs.Lines.{run_lines}
 use Rattle.vital_kernel.specs.Runs.{Ended, IsWholeRun, Run}
 use Rattle.vital_kernel.specs.PortNetworks.{port_network}
 use Rattle.vital_report.specs.Lines.{refused_stimulus}
-use Rattle.vital_report.specs.declared.line.StimulusWhy.{StimulusWhy}
-use Rattle.vital_report.specs.declared.line.StimulusWhy.TheVariants as printed
+use Rattle.vital_report.specs.declared.why.StimulusWhy.{StimulusWhy}
+use Rattle.vital_report.specs.declared.why.StimulusWhy.TheVariants as printed
 use Rattle.vital_stim.specs.Stimuli.{stim}
 use Rattle.vital_stim.specs.declared.fault.StimFault.{StimFault}
 use Rattle.vital_stim.specs.declared.fault.StimWhy.{StimWhy}

@@ -11,6 +11,7 @@ mod network_run;
 mod program;
 mod reading;
 mod refusal;
+mod self_run;
 mod simulating;
 mod stages;
 mod status;

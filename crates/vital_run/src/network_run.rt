@@ -45,6 +45,7 @@ fn run_kernel<K: Sink>(
     printer: &mut Printer<'_, K>,
 ) -> Status
     requires unbegun { kernel.old.is_begun ≡ false }
+    requires not_given_up { kernel.old.is_given_up ≡ false }
     requires until { until ≤ 2 ^ 60 }
     requires limit { 1 ≤ limit }
     requires goes_on { printer.old.stopped ≡ false }

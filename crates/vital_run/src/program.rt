@@ -1,14 +1,17 @@
 //! The one call that does all that the program does.
 
-ghost use Rattle.std.specs.Prelude.{◌≡◌, ◌≢◌, ◌≤◌, false, IfSome};
+ghost use Rattle.std.specs.Prelude.{◌≡◌, ◌≢◌, ◌≤◌, false, length, IfSome};
 ghost use Rattle.vital_base.specs.Faults.{Rose};
 ghost use Rattle.vital_run.specs.Answer.{Answer};
-ghost use Rattle.vital_run.specs.Loading.{OpensFiles, files_of};
+ghost use Rattle.vital_run.specs.Loading.{OpensFiles, asked_files, files_of};
 ghost use Rattle.vital_run.specs.Outcome.{Finishes, Gives, Runs};
-ghost use Rattle.vital_run.specs.Stages.{IsAnswer, IsJobAnswer, IsOnlyAnswer};
+ghost use Rattle.vital_run.specs.Selves.{drawn_by};
+ghost use Rattle.vital_run.specs.Stages.{IsAnswer, IsAskedAnswer, IsJobAnswer, IsOnlyAnswer};
+ghost use Rattle.vital_words.specs.Given.{IsBounded, IsBoundedTask, NamesIn};
 ghost use Rattle.vital_words.specs.Jobs.{job};
 
 use crate::refusal::refuse_words;
+use crate::self_run::run_self;
 use crate::stages::run_job;
 use crate::status::Status;
 use std::alloc::Global;
@@ -18,7 +21,7 @@ use vital_kernel::{one_run, port_run};
 use vital_level0::one_first_breach;
 use vital_report::{Printer, Reporter};
 use vital_vhdl::one_reading;
-use vital_words::{JobError, read_job};
+use vital_words::{Job, JobError, SelfRun, Task, read_job};
 
 /// Answers the words of a command line: reads what they name from the shelf, and writes the answer's lines to the sink.
 ///
@@ -83,14 +86,47 @@ fn run_words<S: Shelf, K: Sink>(
     ensures opens { OpensFiles (files_of (job words.now)) result (S.history shelf.old) (S.history shelf.new) }
 {
     match read_job(alloc, words) {
-        Ok(job) => run_job(alloc, &job, shelf, printer),
+        Ok(job) => answer_job(alloc, &job, shelf, printer),
         Err(JobError::Usage(fault)) => refuse_words(fault, printer),
         Err(JobError::NoMemory) => Status::NoMemory,
     }
 }
 
+/// Answers a job: `self` draws its files, and the others are loaded.
+fn answer_job<S: Shelf, K: Sink>(
+    alloc: Global,
+    job: &Job,
+    shelf: &mut S,
+    printer: &mut Printer<'_, K>,
+) -> Status
+    requires few { length job.now.files ≤ 34 }
+    requires names_in { NamesIn job.now }
+    requires bounded { IsBounded job.now }
+    requires goes_on { printer.old.stopped ≡ false }
+    ensures runs { Runs (λ files. IsAskedAnswer files job.now (drawn_by job.now.task)) result
+        (S.files shelf.old) (S.is_steady shelf.old) (S.faults shelf.old) (S.faults shelf.new) printer.old printer.new }
+    ensures opens { OpensFiles (asked_files (drawn_by job.now.task) job.now.files) result (S.history shelf.old) (S.history shelf.new) }
+{
+    match drawn_by(&job.task) {
+        Some(run) => run_self(alloc, run, printer),
+        None => run_job(alloc, job, shelf, printer),
+    }
+}
+
+/// What a task draws and simulates, where it is that of `self`.
+fn drawn_by(task: &Task) -> Option<SelfRun>
+    requires bounded { IsBoundedTask task.now }
+    ensures run { result ≡ drawn_by task.now }
+    ensures cells { IfSome result (λ run. (1 ≤ run.cells) × (run.cells ≤ 10_000)) }
+{
+    match task {
+        Task::SelfRun(run) => Some(*run),
+        Task::Play(_) | Task::Check | Task::Tree(_) | Task::Sim(_) => None,
+    }
+}
+
 /// Writes what is still held of an answer that ended with this status. After a failure there is nothing to write.
-fn finish<K: Sink>(status: Status, printer: &mut Printer<'_, K>) -> Status
+pub fn finish<K: Sink>(status: Status, printer: &mut Printer<'_, K>) -> Status
     ensures { Finishes status result printer.old printer.new }
 {
     match status {

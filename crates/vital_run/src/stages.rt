@@ -49,7 +49,7 @@ pub fn run_job<S: Shelf, K: Sink>(
 }
 
 /// Runs a job whose files were loaded: they are read, and then come the other stages.
-fn run_sources<K: Sink>(
+pub fn run_sources<K: Sink>(
     alloc: Global,
     job: &Job,
     sources: &List<Source>,
@@ -100,7 +100,7 @@ fn run_read<K: Sink>(
     }
 }
 
-/// Does what a job asks for with its files, the entries of its SDF files, and their library.
+/// Does what a job asks for with its files, the entries of its SDF files, and their library. `self` asks nothing of files.
 fn run_task<K: Sink>(
     alloc: Global,
     job: &Job,
@@ -148,6 +148,7 @@ fn run_task<K: Sink>(
                 printer,
             )
         }
+        Task::SelfRun(_) => Status::Done,
     }
 }
 

@@ -1,4 +1,5 @@
 ghost use Rattle.std.specs.Prelude.{◌≡◌};
+ghost use Rattle.vital_run.specs.Outcome.{is_failure};
 ghost use Rattle.vital_run.specs.Status.{number_of};
 
 /// How a run ended. Its number is the program's exit status.
@@ -52,5 +53,15 @@ impl Status {
             Status::WriteFault => 11,
             Status::NoMemory => 12,
         }
+    }
+
+    /// Is it the status of a run that failed, and not of an answer?
+    pub fn is_failure(self) -> bool
+        ensures { result ≡ is_failure self }
+    {
+        matches!(
+            self,
+            Status::ReadFault | Status::WriteFault | Status::NoMemory
+        )
     }
 }

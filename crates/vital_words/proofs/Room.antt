@@ -9,11 +9,11 @@ use Rattle.vital_words.specs.Jobs.{file_of, file_in}
 use Rattle.vital_words.specs.Keys.{value_in, is_for}
 use Rattle.vital_words.specs.Refusals.{refusal_of, refusal, fault_or, first_refusal, fault_of, first_fault, is_met, missing}
 use Rattle.vital_words.specs.declared.command.Command.{Command}
-use Rattle.vital_words.specs.declared.command.Command.TheVariants.{Play, Check, Tree, Sim}
+use Rattle.vital_words.specs.declared.command.Command.TheVariants.{Play, Check, Tree, Sim, SelfRun}
 use Rattle.vital_words.specs.declared.command.KeyRule.{KeyRule}
 use Rattle.vital_words.specs.declared.job.NamedFile.{NamedFile}
 use Rattle.vital_words.specs.declared.key.Key.{Key}
-use Rattle.vital_words.specs.declared.key.Key.TheVariants.{File, Until, Top, Corner, Delta, Watch}
+use Rattle.vital_words.specs.declared.key.Key.TheVariants.{File, Until, Top, Corner, Delta, Watch, Seed, Cells}
 use Rattle.vital_words.specs.declared.refusal.UsageFault.{UsageFault}
 use Rattle.vital_words.specs.declared.refusal.UsageWhy.{UsageWhy}
 use Rattle.vital_words.specs.declared.refusal.UsageWhy.TheVariants as why
@@ -31,6 +31,8 @@ files_by Top times = 0
 files_by Corner times = 0
 files_by Delta times = 0
 files_by Watch times = 0
+files_by Seed times = 0
+files_by Cells times = 0
 
 -- how many more files the keys may name after the earlier words
 abbrev room : List KeyRule → List (List ℕ) → ℕ
@@ -44,6 +46,8 @@ files_by-fewer Top m n le = omega arith
 files_by-fewer Corner m n le = omega arith
 files_by-fewer Delta m n le = omega arith
 files_by-fewer Watch m n le = omega arith
+files_by-fewer Seed m n le = omega arith
+files_by-fewer Cells m n le = omega arith
 
 -- a value takes room where it names a file
 files_by-taken : (key : Key) (value : List ℕ) (m n : ℕ) → m < n → count_of (file_of key value) + files_by key m ≤ files_by key n
@@ -53,6 +57,8 @@ files_by-taken Top value m n lt = omega arith
 files_by-taken Corner value m n lt = omega arith
 files_by-taken Delta value m n lt = omega arith
 files_by-taken Watch value m n lt = omega arith
+files_by-taken Seed value m n lt = omega arith
+files_by-taken Cells value m n lt = omega arith
 
 -- one word more counts where it is for the key
 counted : (key : Key) (earlier : List (List ℕ)) (word : List ℕ) → count_by (is_for key) (earlier ++ word ∷ []) ≡ count_by (is_for key) earlier + cond (is_for key word) 1 0
@@ -117,6 +123,7 @@ room_of Play = omega arith
 room_of Check = omega arith
 room_of Tree = omega arith
 room_of Sim = omega arith
+room_of SelfRun = omega arith
 
 -- words of a command that have no fault name few files
 pub few_files : (command : Command) (words : List (List ℕ)) → first_fault (rules_of command) words ≡ None → length (filter_map (file_in (rules_of command)) words) ≤ 34

@@ -2,11 +2,11 @@
 use Rattle.std.specs.Prelude.{ℕ, List, [], ◌∷◌, Option, Some, None, true, false, codes, if◌then◌else◌}
 use Rattle.std.specs.Str.{bytes_eq}
 use Rattle.vital_words.specs.declared.command.Command.{Command}
-use Rattle.vital_words.specs.declared.command.Command.TheVariants.{Play, Check, Tree, Sim}
+use Rattle.vital_words.specs.declared.command.Command.TheVariants.{Play, Check, Tree, Sim, SelfRun}
 use Rattle.vital_words.specs.declared.command.KeyRule.{KeyRule}
 use Rattle.vital_words.specs.declared.key.FileKind.TheVariants.{Lib, Net, Sdf, Stim}
 use Rattle.vital_words.specs.declared.key.Key.{Key}
-use Rattle.vital_words.specs.declared.key.Key.TheVariants.{File, Until, Top, Corner, Delta, Watch}
+use Rattle.vital_words.specs.declared.key.Key.TheVariants.{File, Until, Top, Corner, Delta, Watch, Seed, Cells}
 
 -- The command that is written so.
 abbrev pub command_named : List ℕ → Option Command
@@ -15,6 +15,7 @@ command_named word =
     else if bytes_eq word (codes "check") then Some Check
     else if bytes_eq word (codes "tree") then Some Tree
     else if bytes_eq word (codes "sim") then Some Sim
+    else if bytes_eq word (codes "self") then Some SelfRun
     else None
 
 -- A key that must come, and may come so often.
@@ -33,3 +34,4 @@ rules_of Tree = required (File Lib) 16 ∷ optional (File Net) 1 ∷ required To
 rules_of Sim =
     required (File Lib) 16 ∷ optional (File Net) 1 ∷ optional (File Sdf) 16 ∷ required Top 1 ∷ required (File Stim) 1 ∷ required Until 1
     ∷ optional Corner 1 ∷ optional Delta 1 ∷ optional Watch 1 ∷ []
+rules_of SelfRun = required Seed 1 ∷ required Cells 1 ∷ []

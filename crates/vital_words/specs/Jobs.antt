@@ -8,7 +8,7 @@ use Rattle.vital_base.specs.declared.watch.Watch.{Watch}
 use Rattle.vital_base.specs.declared.watch.Watch.TheVariants as watch
 use Rattle.vital_identifiers.specs.Identifiers.{folded}
 use Rattle.vital_words.specs.Commands.{command_named, rules_of}
-use Rattle.vital_words.specs.Keys.{◌>>=◌, value_in, value_of, end_time, corner_named, delta_limit, watch_named}
+use Rattle.vital_words.specs.Keys.{◌>>=◌, value_in, value_of, end_time, corner_named, delta_limit, watch_named, seed_of, cells_of}
 use Rattle.vital_words.specs.Refusals.{first_fault, missing}
 use Rattle.vital_words.specs.declared.command.Command.{Command}
 use Rattle.vital_words.specs.declared.command.Command.TheVariants as command
@@ -16,6 +16,7 @@ use Rattle.vital_words.specs.declared.command.KeyRule.{KeyRule}
 use Rattle.vital_words.specs.declared.job.Job.{Job}
 use Rattle.vital_words.specs.declared.job.NamedFile.{NamedFile}
 use Rattle.vital_words.specs.declared.job.Play.{Play}
+use Rattle.vital_words.specs.declared.job.SelfRun.{SelfRun}
 use Rattle.vital_words.specs.declared.job.Sim.{Sim}
 use Rattle.vital_words.specs.declared.job.Task.{Task}
 use Rattle.vital_words.specs.declared.job.Task.TheVariants as task
@@ -35,6 +36,8 @@ file_of key.Top value = None
 file_of key.Corner value = None
 file_of key.Delta value = None
 file_of key.Watch value = None
+file_of key.Seed value = None
+file_of key.Cells value = None
 
 -- The file that a word names by this key, where it gives a value to it, or else by another key.
 abbrev pub file_or : Key → Option (List ℕ) → Option NamedFile → Option NamedFile
@@ -91,12 +94,22 @@ sim_of files words = do
   until ← end_time value
   Some (record { stim = stim; top = folded top; until = until; corner = corner_of words; limit = limit_of words; watch = watch_of words })
 
+-- What `self` runs, by the words after it.
+abbrev pub self_run_of : List (List ℕ) → Option SelfRun
+self_run_of words = do
+  value ← value_of key.Seed words
+  seed ← seed_of value
+  value ← value_of key.Cells words
+  cells ← cells_of value
+  Some (record { seed = seed; cells = cells })
+
 -- What a command does with these files, which the words after it name.
 abbrev pub task_of : Command → List NamedFile → List (List ℕ) → Option Task
 task_of command.Play files words = option_map task.Play (play_of files words)
 task_of command.Check files words = Some task.Check
 task_of command.Tree files words = option_map task.Tree (tree_of words)
 task_of command.Sim files words = option_map task.Sim (sim_of files words)
+task_of command.SelfRun files words = option_map task.SelfRun (self_run_of words)
 
 -- The job of these files, or a fault.
 abbrev pub job_or : List NamedFile → UsageFault → Option Task → Result Job UsageFault

@@ -4,6 +4,7 @@ use Rattle.std.specs.Char.{is_ascii_digit}
 use Rattle.std.specs.List.{list_all, filter_map}
 use Rattle.std.specs.Option.{is_some, option_map}
 use Rattle.std.specs.Str.{bytes_eq}
+use Rattle.std.specs.Str.Parse.{digits_value}
 use Rattle.vital_base.specs.declared.corner.Corner.{Corner as Corner'}
 use Rattle.vital_base.specs.declared.corner.Corner.TheVariants as corner
 use Rattle.vital_base.specs.declared.watch.Watch.{Watch as Watch'}
@@ -13,7 +14,7 @@ use Rattle.vital_identifiers.specs.Identifiers.{is_basic_identifier}
 use Rattle.vital_words.specs.declared.key.FileKind.{FileKind}
 use Rattle.vital_words.specs.declared.key.FileKind.TheVariants.{Lib, Net, Sdf, Stim}
 use Rattle.vital_words.specs.declared.key.Key.{Key}
-use Rattle.vital_words.specs.declared.key.Key.TheVariants.{File, Until, Top, Corner, Delta, Watch}
+use Rattle.vital_words.specs.declared.key.Key.TheVariants.{File, Until, Top, Corner, Delta, Watch, Seed, Cells}
 
 infixl 10 ◌>>=◌
 abbrev pub ◌>>=◌ : {A B : Type 0} → Option A → (A → Option B) → Option B
@@ -40,11 +41,29 @@ corner_named value =
     else if bytes_eq value (codes "max") then Some corner.Max
     else None
 
+-- A number from 1 to the greatest one, in at most so many digits. Leading zeros count as digits.
+abbrev pub count_of : ℕ → ℕ → List ℕ → Option ℕ
+count_of digits greatest value = if nat_le (length value) digits then (do
+  number ← number_of value
+  if nat_le 1 number && nat_le number greatest then Some number else None) else None
+
 -- A limit of delta numbers: 1 to 1,000,000, in at most 7 digits.
 abbrev pub delta_limit : List ℕ → Option ℕ
-delta_limit value = if nat_le (length value) 7 then (do
-  number ← number_of value
-  if nat_le 1 number && nat_le number 1_000_000 then Some number else None) else None
+delta_limit value = count_of 7 1_000_000 value
+
+-- A number of cells: 1 to 10,000, in at most 5 digits.
+abbrev pub cells_of : List ℕ → Option ℕ
+cells_of value = count_of 5 10_000 value
+
+-- Are these 1 to 20 decimal digits, worth at most 2^64 - 1?
+abbrev pub is_seed : List ℕ → Bool
+is_seed value =
+    nat_le 1 (length value) && nat_le (length value) 20 && list_all is_ascii_digit value
+    && nat_le (digits_value 10 value) 18_446_744_073_709_551_615
+
+-- A seed.
+abbrev pub seed_of : List ℕ → Option ℕ
+seed_of value = if is_seed value then Some (digits_value 10 value) else None
 
 -- The signals that are watched for a value.
 abbrev pub watch_named : List ℕ → Option Watch'
@@ -68,6 +87,8 @@ name_of Top = codes "top"
 name_of Corner = codes "corner"
 name_of Delta = codes "delta"
 name_of Watch = codes "watch"
+name_of Seed = codes "seed"
+name_of Cells = codes "cells"
 
 -- Which values a key takes.
 abbrev pub is_good : Key → List ℕ → Bool
@@ -77,6 +98,8 @@ is_good Top value = is_basic_identifier value
 is_good Corner value = is_some (corner_named value)
 is_good Delta value = is_some (delta_limit value)
 is_good Watch value = is_some (watch_named value)
+is_good Seed value = is_some (seed_of value)
+is_good Cells value = is_some (cells_of value)
 
 -- The key and the value of a word, which its first `=` parts.
 abbrev pub parts : List ℕ → Option (List ℕ × List ℕ)

@@ -16,6 +16,8 @@ pub enum Command {
     Tree,
     /// Simulate an elaborated design.
     Sim,
+    /// Simulate a netlist that a seed draws.
+    SelfRun,
 }
 
 /// How a command takes a key.
@@ -94,6 +96,20 @@ const WATCH: KeyRule = KeyRule {
     is_required: false,
 };
 
+/// The seed of a run whose texts are drawn.
+const SEED: KeyRule = KeyRule {
+    key: Key::Seed,
+    most: 1,
+    is_required: true,
+};
+
+/// The number of cells of such a run.
+const CELLS: KeyRule = KeyRule {
+    key: Key::Cells,
+    most: 1,
+    is_required: true,
+};
+
 impl Command {
     /// The command that is written so.
     pub fn named(word: &[u8]) -> Option<Command>
@@ -104,6 +120,7 @@ impl Command {
             b"check" => Some(Command::Check),
             b"tree" => Some(Command::Tree),
             b"sim" => Some(Command::Sim),
+            b"self" => Some(Command::SelfRun),
             _ => None,
         }
     }
@@ -117,6 +134,7 @@ impl Command {
             Command::Check => &[LIB],
             Command::Tree => &[LIB, NET, TOP],
             Command::Sim => &[LIB, NET, SDF, TOP, STIM, UNTIL, CORNER, DELTA, WATCH],
+            Command::SelfRun => &[SEED, CELLS],
         }
     }
 }

@@ -3,12 +3,14 @@
 ghost use Rattle.std.specs.Prelude.{◌≡◌, ◌^◌, ◌≤◌, ◌<◌, length, position, List as List', IfOk, IfSome, Ok};
 ghost use Rattle.std.specs.List.{filter_map};
 ghost use Rattle.std.specs.Option.{option_map};
-ghost use Rattle.vital_words.specs.Jobs.{file_of, file_in, is_stim, corner_of, limit_of, play_of, sim_of, tree_of, task_of, watch_of, job_of, job};
+ghost use Rattle.vital_words.specs.Jobs.{file_of, file_in, is_stim, corner_of, limit_of, play_of, sim_of, tree_of, task_of, watch_of, self_run_of, job_of, job};
 ghost use Rattle.vital_words.specs.Given.{GivesJob, IsBounded, IsBoundedTask, NamesIn};
 ghost use Rattle.vital_words.specs.declared.job.JobError.TheVariants.{NoMemory};
 
 use crate::command::{Command, KeyRule};
-use crate::key::{FileKind, Key, corner_named, delta_limit, end_time, watch_named};
+use crate::key::{
+    FileKind, Key, cells_of, corner_named, delta_limit, end_time, seed_of, watch_named,
+};
 use crate::refusal::{UsageFault, UsageWhy, first_fault, missing};
 use std::alloc::{AllocError, Global};
 use vital_base::{Corner, List, Name, Time, Watch, Word};
@@ -40,6 +42,8 @@ pub enum Task {
     Tree(Tree),
     /// The design that they make is simulated.
     Sim(Sim),
+    /// A netlist that a seed draws is simulated. The job has no files.
+    SelfRun(SelfRun),
 }
 
 /// What `play` plays.
@@ -73,6 +77,15 @@ pub struct Sim {
     pub limit: u32,
     /// The signals whose first values and events are printed.
     pub watch: Watch,
+}
+
+/// What `self` draws and simulates.
+#[derive(Clone, Copy)]
+pub struct SelfRun {
+    /// The number that draws begin with.
+    pub seed: u64,
+    /// How many cells there are: 1 to 10,000.
+    pub cells: u32,
 }
 
 /// Why there is no job.
@@ -165,7 +178,8 @@ fn file_of<'a>(key: Key, value: &'a [u8]) -> Option<(FileKind, &'a [u8])>
 {
     match key {
         Key::File(kind) => Some((kind, value)),
-        Key::Until | Key::Top | Key::Corner | Key::Delta | Key::Watch => None,
+        Key::Until | Key::Top | Key::Corner | Key::Delta | Key::Watch | Key::Seed | Key::Cells =>
+            None,
     }
 }
 
@@ -185,6 +199,7 @@ fn task_of(
         Command::Check => Ok(Some(Task::Check)),
         Command::Tree => Ok(tree_of(alloc, words)?.map(Task::Tree)),
         Command::Sim => Ok(sim_of(alloc, files, words)?.map(Task::Sim)),
+        Command::SelfRun => Ok(self_run_of(words).map(Task::SelfRun)),
     }
 }
 
@@ -263,6 +278,16 @@ fn sim_of(alloc: Global, files: &[NamedFile], words: &[Word]) -> Result<Option<S
         })),
         None => Ok(None),
     }
+}
+
+/// What `self` draws and simulates.
+fn self_run_of(words: &[Word]) -> Option<SelfRun>
+    ensures run { result ≡ self_run_of words.now }
+    ensures bounded { IfSome result (λ run. IsBoundedTask (Task.SelfRun run)) }
+{
+    let seed = seed_of(Key::Seed.value(words)?)?;
+    let cells = cells_of(Key::Cells.value(words)?)?;
+    Some(SelfRun { seed, cells })
 }
 
 fn first_stim(files: &[NamedFile]) -> Option<usize>

@@ -4,7 +4,7 @@ ghost use Rattle.std.specs.Prelude.{◌≡◌, ◌^◌, ◌≤◌, ◌<◌, ◌=
 ghost use Rattle.std.specs.Char.{is_ascii_digit};
 ghost use Rattle.std.specs.List.{list_all};
 ghost use Rattle.std.specs.Option.{option_map, option_copied};
-ghost use Rattle.vital_words.specs.Keys.{name_of, file_key, is_good, is_file_name, end_time, corner_named, delta_limit, watch_named, parts, value_in, is_for, value_of};
+ghost use Rattle.vital_words.specs.Keys.{name_of, file_key, is_good, is_file_name, end_time, corner_named, count_of, delta_limit, cells_of, seed_of, watch_named, parts, value_in, is_for, value_of};
 
 use vital_base::{Corner, Time, TimeUnit, Watch, Word, read_number};
 use vital_identifiers::is_basic_identifier;
@@ -15,7 +15,15 @@ const LONGEST_FILE_NAME: usize = 4_096;
 /// How many digits a limit of delta numbers may have, and the greatest one.
 const LONGEST_DELTA_LIMIT: usize = 7;
 
-const GREATEST_DELTA_LIMIT: u64 = 1_000_000;
+const GREATEST_DELTA_LIMIT: u32 = 1_000_000;
+
+/// How many digits a number of cells may have, and the greatest one.
+const LONGEST_NUMBER_OF_CELLS: usize = 5;
+
+const MOST_CELLS: u32 = 10_000;
+
+/// How many digits a seed may have.
+const LONGEST_SEED: usize = 20;
 
 /// What a file is read as.
 #[derive(Clone, Copy, PartialEq, Eq)]
@@ -45,6 +53,10 @@ pub enum Key {
     Delta,
     /// The signals that are watched.
     Watch,
+    /// The number that draws begin with.
+    Seed,
+    /// How many instances are drawn.
+    Cells,
 }
 
 impl Key {
@@ -59,6 +71,8 @@ impl Key {
             Key::Corner => b"corner",
             Key::Delta => b"delta",
             Key::Watch => b"watch",
+            Key::Seed => b"seed",
+            Key::Cells => b"cells",
         }
     }
 
@@ -73,6 +87,8 @@ impl Key {
             Key::Corner => corner_named(value).is_some(),
             Key::Delta => delta_limit(value).is_some(),
             Key::Watch => watch_named(value).is_some(),
+            Key::Seed => seed_of(value).is_some(),
+            Key::Cells => cells_of(value).is_some(),
         }
     }
 
@@ -165,15 +181,48 @@ pub fn corner_named(value: &[u8]) -> Option<Corner>
 pub fn delta_limit(value: &[u8]) -> Option<u32>
     ensures { result ≡ delta_limit value.now }
 {
-    if value.len() > LONGEST_DELTA_LIMIT {
+    count_of(LONGEST_DELTA_LIMIT, GREATEST_DELTA_LIMIT, value)
+}
+
+/// The number of cells that a value writes.
+pub fn cells_of(value: &[u8]) -> Option<u32>
+    ensures cells { result ≡ cells_of value.now }
+    ensures bounded { IfSome result (λ cells. (1 ≤ cells) × (cells ≤ 10_000)) }
+{
+    count_of(LONGEST_NUMBER_OF_CELLS, MOST_CELLS, value)
+}
+
+/// The number from 1 to the greatest one that a value writes, in at most so many digits.
+fn count_of(most_digits: usize, greatest: u32, value: &[u8]) -> Option<u32>
+    ensures count { result ≡ count_of most_digits greatest value.now }
+    ensures bounded { IfSome result (λ count. (1 ≤ count) × (count ≤ greatest)) }
+{
+    if value.len() > most_digits {
         return None;
     }
     let number = read_number(value)?;
-    if 1 <= number && number <= GREATEST_DELTA_LIMIT {
+    if 1 <= number && number <= u64::from(greatest) {
         Some(number as u32)
     } else {
         None
     }
+}
+
+/// The seed that a value writes.
+pub fn seed_of(value: &[u8]) -> Option<u64>
+    ensures { result ≡ seed_of value.now }
+{
+    if value.is_empty() || value.len() > LONGEST_SEED {
+        return None;
+    }
+    let mut seed = 0u64;
+    for digit in value {
+        if !digit.is_ascii_digit() {
+            return None;
+        }
+        seed = seed.checked_mul(10)?.checked_add(u64::from(*digit - b'0'))?;
+    }
+    Some(seed)
 }
 
 /// The signals that are watched for a value.

@@ -7,6 +7,6 @@ mod key;
 mod refusal;
 
 pub use command::{Command, KeyRule};
-pub use job::{Job, JobError, NamedFile, Play, Sim, Task, Tree, read_job};
+pub use job::{Job, JobError, NamedFile, Play, SelfRun, Sim, Task, Tree, read_job};
 pub use key::{FileKind, Key};
 pub use refusal::{UsageFault, UsageWhy};

@@ -3,7 +3,7 @@
 use super::words::{Lines, put_bytes, put_named};
 use std::alloc::{AllocError, Global};
 use vital_base::{Corner, Watch, Word};
-use vital_words::{FileKind, Job, JobError, NamedFile, Play, Sim, Task, Tree, read_job};
+use vital_words::{FileKind, Job, JobError, NamedFile, Play, SelfRun, Sim, Task, Tree, read_job};
 
 fn kind_word(kind: FileKind) -> &'static str {
     match kind {
@@ -47,6 +47,7 @@ fn put_task(out: Lines<'_>, task: &Task) -> Result<(), AllocError> {
         Task::Check => out.push_str("check"),
         Task::Tree(Tree { top }) => put_named(out, "tree top", top.as_slice()),
         Task::Sim(sim) => put_sim(out, sim),
+        Task::SelfRun(SelfRun { seed, cells }) => write!(out, "self seed {seed} cells {cells}"),
     }
 }
 

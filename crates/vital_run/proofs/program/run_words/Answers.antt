@@ -6,7 +6,7 @@ use Rattle.vital_run.proofs.program.run_words.Goals as goal
 use Rattle.vital_words.specs.Jobs.{job}
 
 pub returns-in-Ok-clause-runs : goal.returns-in-Ok-clause-runs
-returns-in-Ok-clause-runs g c = rw c.in-Ok.ensures.job c.run_job.ensures.runs
+returns-in-Ok-clause-runs g c = rw c.in-Ok.ensures.job c.answer_job.ensures.runs
 
 pub returns-in-Err-Usage-clause-runs : goal.returns-in-Err-Usage-clause-runs
 returns-in-Err-Usage-clause-runs g c =

@@ -3,7 +3,7 @@ use Rattle.vital_library.specs.Gathered.{gathered}
 use Rattle.vital_run.specs.Refusals.{refused_at}
 use Rattle.vital_run.specs.Stages.{IsLibraryAnswer}
 use Rattle.vital_run.proofs.LibraryRefused.{library_refused}
-use Rattle.vital_run.proofs.Printing.{stage_for}
+use Rattle.vital_run.proofs.Printing.{stage_for, stage_without_memory}
 use Rattle.vital_run.proofs.stages.run_read.Goals as goal
 
 pub run_task-requires-clause-read : goal.run_task-requires-clause-read
@@ -14,3 +14,6 @@ returns-in-Some g c =
     let job = c.args.job.now in
     stage_for (λ answer. answer ≡ refused_at c.as_slice.result.now c.in-Some.refusal) (IsLibraryAnswer job c.args.sources.now c.args.read.delays (gathered c.args.read.units)) c.refuse_files.result c.args.printer.now c.refuse_files.new.printer c.refuse_files.ensures
     (rw c.as_slice.ensures (library_refused job c.args.sources.now c.args.read.delays c.in-Err.error (gathered c.args.read.units) c.in-Some.refusal c.in-Err.ensures.outcome c.in-Some.ensures))
+
+pub returns : goal.returns
+returns g c = stage_without_memory _ c.args.printer.now c.requires.goes_on
