@@ -15,10 +15,10 @@ use Rattle.vital_cell.proofs.SoundLemmas.{first-holds, second-holds}
 use Rattle.vital_cell.proofs.CellStatementLemmas.{sections-sound}
 use Rattle.vital_cell.proofs.CellValueLemmas.{distinct-front, kinds-sound, variables-differ}
 use Rattle.vital_typed_cells.specs.Fits.{FitsCell}
-use Rattle.vital_execution.specs.Environments.{control_of, generic_delay}
-use Rattle.vital_execution.specs.Execution as execution
-use Rattle.vital_execution.specs.Execution.{Process', Wire, first_driver, present_in}
-use Rattle.vital_execution.specs.Statements.{State, executed}
+use Rattle.vital_cell.specs.Environments.{control_of, generic_delay}
+use Rattle.vital_cell.specs.Execution as execution
+use Rattle.vital_cell.specs.Execution.{Process', Wire, first_driver, present_in}
+use Rattle.vital_cell.specs.Statements.{State, executed}
 use Rattle.vital_machine.specs.declared.effect.Effect.{Effect}
 use Rattle.vital_machine.specs.declared.input.Input.{Input}
 use Rattle.vital_machine.specs.declared.program.Process.{Process}
@@ -52,7 +52,7 @@ use Rattle.vital_typed_cells.specs.Bits.{names_of, number_of}
 use Rattle.vital_typed_cells.specs.declared.process.CellProcess.{CellProcess}
 use Rattle.vital_typed_cells.specs.declared.typed_cell.TypedCell.{TypedCell}
 use Rattle.vital_typed_cells.specs.declared.wire.WireDelay.{WireDelay}
-use Rattle.vital_worths.specs.Packages.{packages_worth}
+use Rattle.vital_typed_cells.specs.PackageWorths.{packages_worth}
 
 -- ---- what a process of a sound cell meets
 

@@ -8,7 +8,7 @@ use Rattle.std.proofs.lemmas.List.Sums.{sum_by-cons, sum_by_push}
 use Rattle.vital_cell.specs.Compiled.{AreMade, ArePut, IsMade, IsPut, with_drivers}
 use Rattle.vital_cell.specs.declared.processes.Processes.{Processes}
 use Rattle.vital_cell.proofs.CellListLemmas.{zip-push}
-use Rattle.vital_execution.specs.Execution.{Executed, Process', Wire, all_executed, drivers_of}
+use Rattle.vital_cell.specs.Execution.{Executed, Process', Wire, all_executed, drivers_of}
 use Rattle.vital_machine.specs.declared.program.Process.{Process}
 use Rattle.vital_machine.specs.Fits.{IsProcess}
 use Rattle.vital_cell.specs.Scopes.{Scope}

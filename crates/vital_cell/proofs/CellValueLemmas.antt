@@ -9,7 +9,7 @@ use Rattle.std.proofs.lemmas.List.Elements.{recursion_from_All}
 use Rattle.vital_cell.proofs.ConstantLemmas.{IsWorthOf, Knows, truth-tabled, worth-of, worths-behind}
 use Rattle.vital_cell.proofs.CellListLemmas.{zip-push}
 use Rattle.vital_cell.proofs.WiderLemmas.{IsWider, constant-wider, kind-wider}
-use Rattle.vital_execution.specs.Environments.{NamedWorth, cell_constants, process_constants}
+use Rattle.vital_cell.specs.Environments.{NamedWorth, cell_constants, process_constants}
 use Rattle.vital_objects.specs.declared.constant.Constant.{Constant}
 use Rattle.vital_objects.specs.declared.variable.Variable.{Variable}
 use Rattle.vital_typed_cells.specs.Sound.{IsSound, IsSoundProcess, names_in_process}
@@ -22,7 +22,7 @@ use Rattle.vital_cell.specs.Values.{AreSoundIn, named_worth, scope_of_cell, with
 use Rattle.vital_timing.specs.declared.delay.Delay.{Delay}
 use Rattle.vital_typed_cells.specs.declared.process.CellProcess.{CellProcess}
 use Rattle.vital_typed_cells.specs.declared.typed_cell.TypedCell.{TypedCell}
-use Rattle.vital_worths.specs.Packages.{packages_worth}
+use Rattle.vital_typed_cells.specs.PackageWorths.{packages_worth}
 
 -- ---- names that differ
 

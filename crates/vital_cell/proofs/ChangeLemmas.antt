@@ -4,7 +4,7 @@ use Rattle.std.specs.Prelude.{slice_get, slice_set, Option, Some, None}
 use Rattle.std.specs.List.{IsDistinct}
 use Rattle.std.specs.Option.{option_and_then, option_map, option_map_or}
 use Rattle.std.specs.Str.{bytes_eq}
-use Rattle.vital_execution.specs.Variables.{Held, slot_named, with_held}
+use Rattle.vital_cell.specs.Variables.{Held, slot_named, with_held}
 use Rattle.vital_machine.specs.declared.slot.Slot.{Slot}
 use Rattle.vital_machine.specs.Fits.{kind_of, kinds_of}
 use Rattle.vital_machine.specs.Machine.{changed}

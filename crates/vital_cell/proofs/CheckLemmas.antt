@@ -4,8 +4,8 @@ use Rattle.std.specs.Prelude.{◌&&◌, cond, is_some, slice_get, Option, Some, 
 use Rattle.std.specs.List.{AllZip, fold, list_all}
 use Rattle.std.specs.Option.{option_and_then, option_map_or}
 use Rattle.std.proofs.lemmas.Bool.{false≢true}
-use Rattle.vital_execution.specs.Statements as E
-use Rattle.vital_execution.specs.Variables as variables
+use Rattle.vital_cell.specs.Statements as E
+use Rattle.vital_cell.specs.Variables as variables
 use Rattle.vital_logic.specs.declared.level.Level.{Level}
 use Rattle.vital_logic.specs.declared.level.Level.TheVariants.{X, Zero}
 use Rattle.vital_machine.specs.declared.input.Input.{Input}
@@ -55,7 +55,7 @@ use Rattle.vital_timing_checks.specs.RecRems.{rec_rem_step}
 use Rattle.vital_timing_checks.specs.SetupHolds.{setup_hold_step}
 use Rattle.vital_timing_checks.specs.TimingSteps as timings
 use Rattle.vital_typed_cells.specs.Bits.{number_of}
-use Rattle.vital_worths.specs.Expressions as T
+use Rattle.vital_typed_cells.specs.Expressions as T
 use Rattle.vital_cell.proofs.CheckPartLemmas.{Worth, after-stands, parts-worth, pulse-limits, pulse_at, recovery-limits, recovery_at, reference-there, setup-limits, setup_at, test-there, violation-there}
 
 -- ---- setup and hold

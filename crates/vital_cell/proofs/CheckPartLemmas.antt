@@ -3,9 +3,9 @@ use Rattle.std.proofs.Common.{◌≡◌, ℕ, true, false, List, [], ◌∷◌, 
 use Rattle.std.specs.Prelude.{Bool, ◌&&◌, cond, is_some, slice_get, unwrap_or, Option, Some, None}
 use Rattle.std.specs.Option.{option_map, option_map_or}
 use Rattle.std.proofs.lemmas.Bool.{false≢true}
-use Rattle.vital_execution.specs.Statements as E
-use Rattle.vital_execution.specs.Times.{time}
-use Rattle.vital_execution.specs.Variables as variables
+use Rattle.vital_cell.specs.Statements as E
+use Rattle.vital_cell.specs.Times.{time}
+use Rattle.vital_cell.specs.Variables as variables
 use Rattle.vital_logic.specs.declared.level.Level.{Level}
 use Rattle.vital_logic.specs.declared.level.Level.TheVariants.{X, Zero}
 use Rattle.vital_machine.specs.declared.effect.Effect.{Effect}
@@ -49,7 +49,7 @@ use Rattle.vital_timing_checks.specs.declared.limits.RecoveryLimits.{RecoveryLim
 use Rattle.vital_timing_checks.specs.declared.limits.SetupLimits.{SetupLimits}
 use Rattle.vital_timing_checks.specs.declared.violated.Violated.{Violated}
 use Rattle.vital_typed_cells.specs.Bits.{number_of}
-use Rattle.vital_worths.specs.Expressions as T
+use Rattle.vital_typed_cells.specs.Expressions as T
 
 -- ---- states
 

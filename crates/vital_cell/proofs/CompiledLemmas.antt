@@ -11,8 +11,8 @@ use Rattle.vital_cell.proofs.CellListLemmas.{all-behind}
 use Rattle.vital_cell.proofs.CellNumberLemmas.{process-of-cell, wire-of-cell}
 use Rattle.vital_cell.proofs.CellProcessLemmas.{process-stands, sound-in-values, wire-stands}
 use Rattle.vital_typed_cells.specs.Fits.{FitsCell}
-use Rattle.vital_execution.specs.Environments.{control_of}
-use Rattle.vital_execution.specs.Execution.{Executed, Process', Wire, all_executed, drivers_of, first_driver}
+use Rattle.vital_cell.specs.Environments.{control_of}
+use Rattle.vital_cell.specs.Execution.{Executed, Process', Wire, all_executed, drivers_of, first_driver}
 use Rattle.vital_machine.specs.declared.program.Process.{Process}
 use Rattle.vital_machine.specs.Fits.{StepsAreOfCell}
 use Rattle.vital_operands.specs.declared.tree.Control.TheVariants as control
@@ -21,7 +21,7 @@ use Rattle.vital_cell.specs.Laws.{KindsSuit, SlotsBegin, StepsKeepKinds, StepsSt
 use Rattle.vital_cell.specs.Values.{scope_of_cell}
 use Rattle.vital_timing.specs.declared.delay.Delay.{Delay}
 use Rattle.vital_typed_cells.specs.declared.typed_cell.TypedCell.{TypedCell}
-use Rattle.vital_worths.specs.Packages.{packages_worth}
+use Rattle.vital_typed_cells.specs.PackageWorths.{packages_worth}
 
 -- ---- what is executed in a sound cell
 

@@ -11,7 +11,7 @@ use Rattle.std.proofs.lemmas.Slice.Eq.{bytes_eq-Decides}
 use Rattle.vital_cell.proofs.CellListLemmas.{any-swapped, either, zip-push}
 use Rattle.vital_cell.proofs.SoundLemmas.{first-holds}
 use Rattle.vital_declarations.specs.declared.declared_type.TableType.TheVariants as table
-use Rattle.vital_execution.specs.Environments.{NamedWorth, constant_worth}
+use Rattle.vital_cell.specs.Environments.{NamedWorth, constant_worth}
 use Rattle.vital_logic.specs.declared.level.Level.TheVariants.{U}
 use Rattle.vital_objects.specs.declared.constant.Constant.{Constant}
 use Rattle.vital_objects.specs.declared.constant.ConstantValue.{ConstantValue}
@@ -27,10 +27,10 @@ use Rattle.vital_cell.specs.Scopes.{Scope}
 use Rattle.vital_cell.specs.Sound.{has_state_table, has_table, rows_named}
 use Rattle.vital_cell.specs.Values.{named_worth, with_constants, worths_in}
 use Rattle.vital_table.specs.Tables.{is_table}
-use Rattle.vital_worths.specs.Expressions.{Names, rows_of}
-use Rattle.vital_worths.specs.Packages.{packages_worth, rows_in, worth_at}
-use Rattle.vital_worths.proofs.PackageLemmas.{rows-at}
-use Rattle.vital_worths.proofs.TableLemmas.{parted-table}
+use Rattle.vital_typed_cells.specs.Expressions.{Names, rows_of}
+use Rattle.vital_typed_cells.specs.PackageWorths.{packages_worth, rows_in, worth_at}
+use Rattle.vital_typed_cells.proofs.PackageLemmas.{rows-at}
+use Rattle.vital_typed_cells.proofs.TableLemmas.{parted-table}
 
 -- ---- what constants are worth
 

@@ -5,9 +5,9 @@ use Rattle.std.specs.List.{AllZip, fold, list_all}
 use Rattle.std.specs.Option.{option_map_or}
 use Rattle.std.proofs.lemmas.Bool.{false≢true}
 use Rattle.vital_actuals.specs.declared.actual.Path.{Path}
-use Rattle.vital_execution.specs.Statements as E
-use Rattle.vital_execution.specs.Times.{delay_worth}
-use Rattle.vital_execution.specs.Variables as variables
+use Rattle.vital_cell.specs.Statements as E
+use Rattle.vital_cell.specs.Times.{delay_worth}
+use Rattle.vital_cell.specs.Variables as variables
 use Rattle.vital_logic.specs.declared.level.Level.{Level}
 use Rattle.vital_machine.specs.declared.effect.Effect.TheVariants as effect
 use Rattle.vital_machine.specs.declared.input.Input.{Input}
@@ -49,7 +49,7 @@ use Rattle.vital_timing.specs.declared.delay.Delay.{Delay}
 use Rattle.vital_timing.specs.declared.delay.DelayType.{DelayType}
 use Rattle.vital_timing.specs.declared.glitch_mode.GlitchMode.{GlitchMode}
 use Rattle.vital_typed_cells.specs.Bits.{number_of}
-use Rattle.vital_worths.specs.Expressions as T
+use Rattle.vital_typed_cells.specs.Expressions as T
 
 -- ---- paths
 

@@ -6,8 +6,8 @@ use Rattle.std.specs.Option.{option_map_or}
 use Rattle.std.specs.Str.{bytes_eq}
 use Rattle.std.proofs.lemmas.Bool.{false≢true}
 use Rattle.std.proofs.lemmas.List.Elements.{All-cons, All-nil}
-use Rattle.vital_execution.specs.Execution.{held_first}
-use Rattle.vital_execution.specs.Variables as variables
+use Rattle.vital_cell.specs.Execution.{held_first}
+use Rattle.vital_cell.specs.Variables as variables
 use Rattle.vital_machine.specs.declared.slot.Slot.{Slot}
 use Rattle.vital_machine.specs.declared.slot.Slot.TheVariants as slot
 use Rattle.vital_machine.specs.Fits.{HasTimes, HaveTimes}

@@ -8,8 +8,8 @@ use Rattle.std.proofs.lemmas.List.{length-map}
 use Rattle.std.proofs.lemmas.List.FromFn.{get_or-map-range_with_len, length-enumerate_from}
 use Rattle.vital_actuals.specs.declared.target.Target.{Target}
 use Rattle.vital_actuals.specs.declared.target.Target.TheVariants as target
-use Rattle.vital_execution.specs.Statements as E
-use Rattle.vital_execution.specs.Variables as variables
+use Rattle.vital_cell.specs.Statements as E
+use Rattle.vital_cell.specs.Variables as variables
 use Rattle.vital_expr.specs.Vectors.{length_of}
 use Rattle.vital_logic.specs.declared.level.Level.{Level}
 use Rattle.vital_logic.specs.declared.level.Level.TheVariants.{U}
@@ -61,7 +61,7 @@ use Rattle.vital_table.specs.Tables.{Table}
 use Rattle.vital_typed_cells.specs.Bits.{number_of}
 use Rattle.vital_typed_statements.specs.declared.statement.Value.TheVariants as value
 use Rattle.vital_typed_statements.specs.StateTables.{results_of}
-use Rattle.vital_worths.specs.Expressions as T
+use Rattle.vital_typed_cells.specs.Expressions as T
 
 abbrev seen_at : List Input → List Slot → Seen
 seen_at inputs slots = record { inputs = inputs; slots = slots }

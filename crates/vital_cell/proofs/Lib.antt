@@ -38,3 +38,8 @@ pub mod TableLemmas
 pub mod VectorLemmas
 pub mod FirstLemmas
 pub mod KeepLemmas
+mod Rows
+mod TruthLemmas
+mod CheckRows
+mod DelayRows
+mod CellRows

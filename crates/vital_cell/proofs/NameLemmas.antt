@@ -4,8 +4,8 @@ use Rattle.std.specs.Prelude.{true, find, is_some, slice_get, unwrap_or, Option,
 use Rattle.std.specs.Str.{bytes_eq}
 use Rattle.std.proofs.lemmas.Bool.{false≢true}
 use Rattle.std.specs.Option.{option_and_then, option_map, option_map_or}
-use Rattle.vital_execution.specs.Environments.{delay_named, input_named}
-use Rattle.vital_execution.specs.Variables as variables
+use Rattle.vital_cell.specs.Environments.{delay_named, input_named}
+use Rattle.vital_cell.specs.Variables as variables
 use Rattle.vital_logic.specs.declared.level.Level.TheVariants.{U}
 use Rattle.vital_machine.specs.declared.input.Input.{Input}
 use Rattle.vital_machine.specs.declared.slot.Slot.{Slot}

@@ -5,7 +5,7 @@ use Rattle.std.specs.Option.{option_map, option_map_or}
 use Rattle.std.proofs.lemmas.Bool.{false≢true}
 use Rattle.std.proofs.lemmas.List.{map-append, take_more}
 use Rattle.vital_declarations.specs.declared.declared_type.TableType.TheVariants as table
-use Rattle.vital_execution.specs.Environments.{constant_of}
+use Rattle.vital_cell.specs.Environments.{constant_of}
 use Rattle.vital_objects.specs.declared.package_value.PackageValue.{PackageValue}
 use Rattle.vital_objects.specs.declared.package_value.PackageValue.TheVariants as packaged
 use Rattle.vital_objects.specs.declared.variable.Variable.{Variable}
@@ -25,9 +25,9 @@ use Rattle.vital_cell.specs.Worths as worths
 use Rattle.vital_cell.proofs.TableLemmas.{truth-table}
 use Rattle.vital_cell.proofs.WiderLemmas.{IsWider, default-wider, package-wider}
 use Rattle.vital_table.specs.Tables.{is_table}
-use Rattle.vital_worths.specs.Expressions.{Level', Truth, Worth, level, truth}
-use Rattle.vital_worths.specs.Packages.{in_packages, of_packages, package_worth, packages_worth, rows_in}
-use Rattle.vital_worths.proofs.PackageLemmas.{rows-at, sound-at, worths-more}
+use Rattle.vital_typed_cells.specs.Expressions.{Level', Truth, Worth, level, truth}
+use Rattle.vital_typed_cells.specs.PackageWorths.{in_packages, of_packages, package_worth, packages_worth, rows_in}
+use Rattle.vital_typed_cells.proofs.PackageLemmas.{rows-at, sound-at, worths-more}
 
 -- ---- names
 

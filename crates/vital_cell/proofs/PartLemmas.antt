@@ -35,7 +35,7 @@ use Rattle.vital_cell.proofs.SoundLemmas as sound
 use Rattle.vital_cell.proofs.SoundLemmas.{first-holds, is_sound_call, second-holds}
 use Rattle.vital_cell.proofs.StandLemmas as stand
 use Rattle.vital_table.specs.Tables.{Table}
-use Rattle.vital_worths.specs.Expressions as T
+use Rattle.vital_typed_cells.specs.Expressions as T
 
 -- ---- sound parts of levels
 

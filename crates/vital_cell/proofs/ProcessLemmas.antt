@@ -2,7 +2,7 @@
 use Rattle.std.proofs.Common.{◌≡◌, ℕ, ◌+◌, true, false, List, [], ◌∷◌, refl, ◌∙◌, ap}
 use Rattle.std.specs.Prelude.{Bool, ◌&&◌, cond}
 use Rattle.std.specs.List.{enumerate_from, fold, list_all}
-use Rattle.vital_execution.specs.Statements as E
+use Rattle.vital_cell.specs.Statements as E
 use Rattle.vital_machine.specs.declared.input.Input.{Input}
 use Rattle.vital_machine.specs.declared.slot.Slot.{Slot}
 use Rattle.vital_machine.specs.declared.steps.CheckStep.{CheckStep}

@@ -8,8 +8,8 @@ use Rattle.std.proofs.lemmas.List.{length-set, set_split}
 use Rattle.std.proofs.lemmas.List.FromFn.{length-map-range_with_len}
 use Rattle.vital_actuals.specs.declared.target.Target.{Target}
 use Rattle.vital_actuals.specs.declared.target.Target.TheVariants as target
-use Rattle.vital_execution.specs.Statements.{put as put_by_name}
-use Rattle.vital_execution.specs.Variables as variables
+use Rattle.vital_cell.specs.Statements.{put as put_by_name}
+use Rattle.vital_cell.specs.Variables as variables
 use Rattle.vital_logic.specs.declared.level.Level.{Level}
 use Rattle.vital_logic.specs.declared.level.Level.TheVariants.{U}
 use Rattle.vital_machine.specs.declared.slot.Slot.{Slot}

@@ -8,7 +8,7 @@ use Rattle.vital_cell.specs.declared.known.KnownNames.{KnownNames}
 use Rattle.vital_cell.proofs.ConstantLemmas.{IsWorthOf}
 use Rattle.vital_cell.proofs.CellValueLemmas.{cell-worths}
 use Rattle.vital_typed_cells.specs.Fits.{FitsCell, IsDelayOf}
-use Rattle.vital_execution.specs.Environments.{NamedDelay, NamedWorth, cell_constants, control_of}
+use Rattle.vital_cell.specs.Environments.{NamedDelay, NamedWorth, cell_constants, control_of}
 use Rattle.vital_objects.specs.declared.constant.Constant.{Constant}
 use Rattle.vital_objects.specs.declared.generic.PlainGeneric.{PlainGeneric}
 use Rattle.vital_objects.specs.declared.generic.TimingGeneric.{TimingGeneric}
@@ -22,8 +22,8 @@ use Rattle.vital_timing.specs.declared.delay.Delay.{Delay}
 use Rattle.vital_typed_cells.specs.Bits.{names_of}
 use Rattle.vital_typed_cells.specs.declared.process.CellProcess.{CellProcess}
 use Rattle.vital_typed_cells.specs.declared.typed_cell.TypedCell.{TypedCell}
-use Rattle.vital_worths.specs.Expressions.{Worth}
-use Rattle.vital_worths.specs.Packages.{packages_worth}
+use Rattle.vital_typed_cells.specs.Expressions.{Worth}
+use Rattle.vital_typed_cells.specs.PackageWorths.{packages_worth}
 
 -- ---- generics
 

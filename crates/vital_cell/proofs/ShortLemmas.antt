@@ -12,8 +12,8 @@ use Rattle.vital_cell.proofs.CellValueLemmas.{cell-sound-in, process-sound-in}
 use Rattle.vital_cell.specs.Compiled.{values_in}
 use Rattle.vital_cell.specs.Short.{AreShortDelays, AreShortWorths, HasShort, IsShortIfAny, IsShortWorth}
 use Rattle.vital_typed_cells.specs.Fits.{FitsCell, IsDelayOf}
-use Rattle.vital_execution.specs.Environments.{NamedDelay, NamedWorth, cell_constants, constant_of, delay_named, delays_of}
-use Rattle.vital_execution.specs.Times.{delay_of as delay_in}
+use Rattle.vital_cell.specs.Environments.{NamedDelay, NamedWorth, cell_constants, constant_of, delay_named, delays_of}
+use Rattle.vital_cell.specs.Times.{delay_of as delay_in}
 use Rattle.vital_objects.specs.declared.constant.Constant.{Constant}
 use Rattle.vital_objects.specs.declared.constant.ConstantValue.{ConstantValue}
 use Rattle.vital_objects.specs.declared.constant.ConstantValue.TheVariants as constants
@@ -42,8 +42,8 @@ use Rattle.vital_timing.specs.declared.delay.DelayType.{DelayType}
 use Rattle.vital_timing.specs.Delays.{type_of}
 use Rattle.vital_typed_cells.specs.declared.process.CellProcess.{CellProcess}
 use Rattle.vital_typed_cells.specs.declared.typed_cell.TypedCell.{TypedCell}
-use Rattle.vital_worths.specs.Expressions.{Delay', Level', Rows, Time, Truth, Worth}
-use Rattle.vital_worths.specs.Packages.{package_worth, packages_worth, worth_at}
+use Rattle.vital_typed_cells.specs.Expressions.{Delay', Level', Rows, Time, Truth, Worth}
+use Rattle.vital_typed_cells.specs.PackageWorths.{package_worth, packages_worth, worth_at}
 
 -- ---- what names are worth
 

@@ -5,7 +5,7 @@ use Rattle.std.proofs.lemmas.List.FromFn.{length-map-range_with_len}
 use Rattle.std.specs.Prelude.{None, Some, false, not, unwrap_or}
 use Rattle.std.specs.List.{reduce, slice_index_or}
 use Rattle.vital_calls.specs.Formals.{input_count, number_of as count_of}
-use Rattle.vital_execution.specs.Environments.{constant_of}
+use Rattle.vital_cell.specs.Environments.{constant_of}
 use Rattle.vital_expr.specs.Vectors.{length_in, length_of}
 use Rattle.vital_logic.specs.declared.level.Level.{Level}
 use Rattle.vital_logic.specs.declared.level.Level.TheVariants.{U}
@@ -48,8 +48,8 @@ use Rattle.vital_cell.proofs.SoundLemmas.{sound-whole}
 use Rattle.vital_cell.proofs.TypedTruths as b
 use Rattle.vital_table.specs.Tables.{Table}
 use Rattle.vital_typed_cells.specs.Bits.{number_of}
-use Rattle.vital_worths.specs.Expressions as T
-use Rattle.vital_worths.proofs.TreeLemmas as t
+use Rattle.vital_typed_cells.specs.Expressions as T
+use Rattle.vital_typed_cells.proofs.TreeLemmas as t
 
 -- ---- levels without parts
 

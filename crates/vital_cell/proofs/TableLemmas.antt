@@ -17,7 +17,7 @@ use Rattle.vital_typed_cells.specs.Named.{is_input_port, is_internal}
 use Rattle.vital_cell.proofs.KindLemmas.{either}
 use Rattle.vital_table.specs.Tables.{is_table}
 use Rattle.vital_typed_cells.specs.Bits.{names_of, number_of}
-use Rattle.vital_worths.proofs.TableLemmas.{parted-table}
+use Rattle.vital_typed_cells.proofs.TableLemmas.{parted-table}
 
 -- ---- bits
 

@@ -11,7 +11,7 @@ use Rattle.vital_operands.specs.declared.tree.BooleanExpr.TheViews.{roll-Boolean
 use Rattle.vital_operands.specs.declared.tree.Control.{Control}
 use Rattle.vital_operands.specs.declared.tree.LevelExpr.{LevelExpr}
 use Rattle.vital_primitives.specs.Operators.{same_level, same_truth, truth2}
-use Rattle.vital_worths.specs.Expressions.{Names, level, truth, truth_step}
+use Rattle.vital_typed_cells.specs.Expressions.{Names, level, truth, truth_step}
 
 truth-roll : (e : Names) (t : BooleanExpr-F BooleanExpr) → truth e (roll-BooleanExpr t) ≡ truth_step e (map-BooleanExpr BooleanExpr Bool (truth e) t)
 unfolding truth

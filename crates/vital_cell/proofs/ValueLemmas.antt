@@ -6,7 +6,7 @@ use Rattle.std.proofs.lemmas.Bool.{false≢true}
 use Rattle.std.proofs.lemmas.List.{take_more}
 use Rattle.std.proofs.lemmas.List.Sums.{fold-append}
 use Rattle.std.proofs.lemmas.Option.{slice_get-get_or}
-use Rattle.vital_execution.specs.Environments.{NamedWorth}
+use Rattle.vital_cell.specs.Environments.{NamedWorth}
 use Rattle.vital_machine.specs.declared.trees.LevelTree.{LevelTree}
 use Rattle.vital_machine.specs.declared.trees.TruthTree.{TruthTree}
 use Rattle.vital_machine.specs.declared.trees.VectorTree.{VectorTree}
@@ -30,7 +30,7 @@ use Rattle.vital_cell.specs.StandsFor.{Fits, IsLevel, IsTruth, IsVector}
 use Rattle.vital_cell.specs.Values.{AreSoundIn, named_worth, with_constants, worths_in}
 use Rattle.vital_cell.specs.Worths as worths
 use Rattle.vital_cell.proofs.ZipLemmas.{map-at, none≢some, some-same}
-use Rattle.vital_worths.specs.Expressions as T
+use Rattle.vital_typed_cells.specs.Expressions as T
 
 -- ---- nothing is seen
 

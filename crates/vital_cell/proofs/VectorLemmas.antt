@@ -15,7 +15,7 @@ use Rattle.vital_cell.specs.StandsFor.{Fits, IsVector}
 use Rattle.vital_cell.proofs.SoundLemmas.{first-holds, second-holds, vector-length}
 use Rattle.vital_cell.proofs.StandLemmas.{vector-long}
 use Rattle.vital_cell.proofs.ValueLemmas.{nothing, vector-known}
-use Rattle.vital_worths.specs.Expressions as T
+use Rattle.vital_typed_cells.specs.Expressions as T
 
 fits-nothing : (k : Scope) → k.variables ≡ [] → Fits k nothing
 fits-nothing k none = λ name n is. absurd (false≢true (sym (ap (λ vs. variable_is (is_vector n) vs name) none) ∙ is))

@@ -7,8 +7,8 @@ use Rattle.vital_cell.specs.declared.processes.Processes.{Processes}
 use Rattle.vital_cell.specs.Programs.{StandsFor}
 use Rattle.vital_cell.specs.Short.{HasShort}
 use Rattle.vital_typed_cells.specs.Fits.{FitsCell}
-use Rattle.vital_execution.specs.Environments.{delay_named}
-use Rattle.vital_execution.specs.Execution.{Executed, Process', Wire, all_executed, drivers_of}
+use Rattle.vital_cell.specs.Environments.{delay_named}
+use Rattle.vital_cell.specs.Execution.{Executed, Process', Wire, all_executed, drivers_of}
 use Rattle.vital_machine.specs.declared.program.Process.{Process}
 use Rattle.vital_machine.specs.declared.steps.Executed.{Executed as Steps}
 use Rattle.vital_machine.specs.declared.steps.Executed.TheVariants as steps
@@ -30,7 +30,7 @@ use Rattle.vital_typed_cells.specs.Bits.{names_of}
 use Rattle.vital_typed_cells.specs.declared.process.CellProcess.{CellProcess}
 use Rattle.vital_typed_cells.specs.declared.typed_cell.TypedCell.{TypedCell}
 use Rattle.vital_typed_cells.specs.declared.wire.WireDelay.{WireDelay}
-use Rattle.vital_worths.specs.Packages.{packages_worth}
+use Rattle.vital_typed_cells.specs.PackageWorths.{packages_worth}
 
 -- ---- what is known
 

@@ -2,7 +2,7 @@
 use Rattle.std.specs.Prelude.{◌≡◌, ℕ, Bool, true, List, map}
 use Rattle.std.specs.List.{IsDistinct, list_all}
 use Rattle.std.specs.Str.{bytes_eq}
-use Rattle.vital_execution.specs.Statements.{executed}
+use Rattle.vital_cell.specs.Statements.{executed}
 use Rattle.vital_machine.specs.declared.input.Input.{Input}
 use Rattle.vital_machine.specs.declared.slot.Slot.{Slot}
 use Rattle.vital_machine.specs.declared.steps.ProcessSteps.{ProcessSteps}

@@ -11,3 +11,8 @@ pub mod Steps
 pub mod Values
 pub mod Formed
 pub mod Laws
+pub mod Times
+pub mod Variables
+pub mod Statements
+pub mod Environments
+pub mod Execution

@@ -1,8 +1,8 @@
 -- What the variables of a process hold, by their names.
 use Rattle.std.specs.Prelude.{ℕ, List, [], ◌∷◌, map}
 use Rattle.std.specs.List.{zip}
-use Rattle.vital_execution.specs.Statements as statements
-use Rattle.vital_execution.specs.Variables as variables
+use Rattle.vital_cell.specs.Statements as statements
+use Rattle.vital_cell.specs.Variables as variables
 use Rattle.vital_machine.specs.declared.slot.Slot.{Slot}
 use Rattle.vital_machine.specs.declared.slot.Slot.TheVariants as slot
 use Rattle.vital_machine.specs.Machine as machine

@@ -2,9 +2,9 @@
 use Rattle.std.specs.Prelude.{◌≡◌, ℕ, All, Bool, List, [], length, map}
 use Rattle.std.specs.List.{AllZip, enumerate_from, sum_by}
 use Rattle.vital_cell.specs.Named.{by_name, named}
-use Rattle.vital_execution.specs.Environments.{control_of}
-use Rattle.vital_execution.specs.Execution as execution
-use Rattle.vital_execution.specs.Execution.{Executed, Process', Wire, all_executed, drivers_of, first_driver, start_of}
+use Rattle.vital_cell.specs.Environments.{control_of}
+use Rattle.vital_cell.specs.Execution as execution
+use Rattle.vital_cell.specs.Execution.{Executed, Process', Wire, all_executed, drivers_of, first_driver, start_of}
 use Rattle.vital_machine.specs.declared.input.Input.{Input}
 use Rattle.vital_machine.specs.declared.program.Process.{Process}
 use Rattle.vital_machine.specs.declared.slot.Slot.{Slot}
@@ -15,7 +15,7 @@ use Rattle.vital_operands.specs.declared.tree.Control.TheVariants as control
 use Rattle.vital_typed_cells.specs.Sound.{bit_count}
 use Rattle.vital_timing.specs.declared.delay.Delay.{Delay}
 use Rattle.vital_typed_cells.specs.declared.typed_cell.TypedCell.{TypedCell}
-use Rattle.vital_worths.specs.Packages.{packages_worth}
+use Rattle.vital_typed_cells.specs.PackageWorths.{packages_worth}
 
 -- The names of the variables of what is executed; a wire delay has none.
 abbrev pub variables_of : Executed → List (List ℕ)

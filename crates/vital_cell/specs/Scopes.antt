@@ -2,10 +2,10 @@
 use Rattle.std.specs.Prelude.{ℕ, Bool, List, map, unwrap_or, Option}
 use Rattle.std.specs.List.{zip}
 use Rattle.std.specs.Option.{option_map}
-use Rattle.vital_execution.specs.Environments.{NamedDelay, NamedWorth, constant_of, delay_named, input_named}
-use Rattle.vital_execution.specs.Statements.{Present}
-use Rattle.vital_execution.specs.Variables as variables
-use Rattle.vital_execution.specs.Variables.{levels_of}
+use Rattle.vital_cell.specs.Environments.{NamedDelay, NamedWorth, constant_of, delay_named, input_named}
+use Rattle.vital_cell.specs.Statements.{Present}
+use Rattle.vital_cell.specs.Variables as variables
+use Rattle.vital_cell.specs.Variables.{levels_of}
 use Rattle.vital_machine.specs.declared.input.Input.{Input}
 use Rattle.vital_machine.specs.Seen.{Seen}
 use Rattle.vital_objects.specs.declared.variable.Variable.{Variable}
@@ -18,7 +18,7 @@ use Rattle.vital_cell.specs.Named.{named}
 use Rattle.vital_cell.specs.Worths as worths
 use Rattle.vital_timing.specs.declared.delay.Delay.{Delay}
 use Rattle.vital_typed_cells.specs.Bits.{number_of}
-use Rattle.vital_worths.specs.Expressions.{Names, Worth}
+use Rattle.vital_typed_cells.specs.Expressions.{Names, Worth}
 
 pub record Scope : Type 0 where
   -- The names of the bits, and the variables of the process.

@@ -1,10 +1,10 @@
 -- Scopes in which no delay is above 2^50 fs.
 use Rattle.std.specs.Prelude.{◌≡◌, true, List, Option, Some, None, ⊤}
 use Rattle.std.specs.List.{AllByRecursion}
-use Rattle.vital_execution.specs.Environments.{NamedDelay, NamedWorth}
+use Rattle.vital_cell.specs.Environments.{NamedDelay, NamedWorth}
 use Rattle.vital_typed_cells.specs.Times.{are_short}
 use Rattle.vital_cell.specs.Scopes.{Scope}
-use Rattle.vital_worths.specs.Expressions.{Delay', Worth}
+use Rattle.vital_typed_cells.specs.Expressions.{Delay', Worth}
 
 -- What a constant is worth, if it is a delay, is short.
 abbrev pub IsShortWorth : Worth → Type 0

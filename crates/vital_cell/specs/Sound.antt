@@ -1,6 +1,6 @@
 -- What is asked of typed trees and statements of which numbered ones are made.
 use Rattle.std.specs.Prelude.{ℕ, Bool, true, List, is_some}
-use Rattle.vital_execution.specs.Environments.{constant_of}
+use Rattle.vital_cell.specs.Environments.{constant_of}
 use Rattle.vital_operands.specs.declared.tree.ConstantName.{ConstantName}
 use Rattle.vital_typed_cells.specs.ActualScopes.{ActualScope}
 use Rattle.vital_typed_cells.specs.ExprScopes.{Scope as Tests}
@@ -8,7 +8,7 @@ use Rattle.vital_typed_cells.specs.Named.{has_element, is_glitch_data, is_period
 use Rattle.vital_cell.specs.Scopes.{Scope}
 use Rattle.vital_table.specs.Tables.{is_table}
 use Rattle.vital_typed_cells.specs.Bits.{number_of}
-use Rattle.vital_worths.specs.Expressions.{rows_of}
+use Rattle.vital_typed_cells.specs.Expressions.{rows_of}
 
 abbrev pub rows_named : Scope → ConstantName → List (List ℕ)
 rows_named k name = rows_of (constant_of k.constants k.packages name)

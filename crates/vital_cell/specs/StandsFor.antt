@@ -13,7 +13,7 @@ use Rattle.vital_operands.specs.declared.tree.VectorExpr.{VectorExpr}
 use Rattle.vital_primitives.specs.Operators.{same_level}
 use Rattle.vital_cell.specs.Scopes.{Scope, names_of}
 use Rattle.vital_cell.specs.Sound.{has_vector}
-use Rattle.vital_worths.specs.Expressions as typed
+use Rattle.vital_typed_cells.specs.Expressions as typed
 
 -- Each vector variable is as long as it was declared.
 abbrev pub Fits : Scope → Seen → Type 0

@@ -4,8 +4,8 @@ use Rattle.std.specs.List.{AllZip, enumerate_from}
 use Rattle.vital_actuals.specs.declared.actual.Path.{Path}
 use Rattle.vital_actuals.specs.declared.target.Target.{Target}
 use Rattle.vital_actuals.specs.declared.target.Target.TheVariants as target
-use Rattle.vital_execution.specs.Statements.{edges}
-use Rattle.vital_execution.specs.Times.{delay_worth, time}
+use Rattle.vital_cell.specs.Statements.{edges}
+use Rattle.vital_cell.specs.Times.{delay_worth, time}
 use Rattle.vital_expr.specs.Vectors.{length_of}
 use Rattle.vital_machine.specs.declared.steps.CheckKindStep.{CheckKindStep}
 use Rattle.vital_machine.specs.declared.steps.CheckKindStep.TheVariants as kind

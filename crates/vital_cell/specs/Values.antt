@@ -2,9 +2,9 @@
 use Rattle.std.specs.Prelude.{◌≡◌, ℕ, Bool, true, false, List, [], ◌∷◌, ◌++◌, map, Option, ⊤}
 use Rattle.std.specs.List.{AllZip, fold}
 use Rattle.std.specs.Option.{option_map_or}
-use Rattle.vital_execution.specs.Environments.{NamedWorth, cell_constants, constant_worth, control_of, delays_of, process_constants}
-use Rattle.vital_execution.specs.Execution.{held_first}
-use Rattle.vital_execution.specs.Variables as variables
+use Rattle.vital_cell.specs.Environments.{NamedWorth, cell_constants, constant_worth, control_of, delays_of, process_constants}
+use Rattle.vital_cell.specs.Execution.{held_first}
+use Rattle.vital_cell.specs.Variables as variables
 use Rattle.vital_machine.specs.declared.slot.Slot.{Slot}
 use Rattle.vital_machine.specs.declared.slot.Slot.TheVariants as slot
 use Rattle.vital_machine.specs.Machine.{changed}
@@ -27,8 +27,8 @@ use Rattle.vital_timing_checks.specs.RecRems as recoveries
 use Rattle.vital_typed_cells.specs.declared.process.CellProcess.{CellProcess}
 use Rattle.vital_typed_cells.specs.declared.typed_cell.TypedCell.{TypedCell}
 use Rattle.vital_typed_cells.specs.Bits.{names_of, number_of}
-use Rattle.vital_worths.specs.Expressions.{Delay', Level', Rows, Time, Truth, Worth, level, truth}
-use Rattle.vital_worths.specs.Packages.{packages_worth}
+use Rattle.vital_typed_cells.specs.Expressions.{Delay', Level', Rows, Time, Truth, Worth, level, truth}
+use Rattle.vital_typed_cells.specs.PackageWorths.{packages_worth}
 
 -- Where these constants are known.
 abbrev pub with_constants : Scope → List NamedWorth → Scope

@@ -4,7 +4,7 @@ ghost use Rattle.std.specs.Prelude.{◌≡◌, ◌^◌, ◌<◌, IfOk, length};
 ghost use Rattle.vital_cell.specs.Compiled.{AreMade, IsCompiled, IsOfCell};
 ghost use Rattle.vital_cell.specs.Programs as spec;
 ghost use Rattle.vital_typed_cells.specs.Fits.{FitsCell};
-ghost use Rattle.vital_execution.specs.Execution.{all_executed};
+ghost use Rattle.vital_cell.specs.Execution.{all_executed};
 ghost use Rattle.vital_typed_cells.specs.Sound.{IsSound};
 ghost use Rattle.vital_cell.specs.Scopes.{lent};
 

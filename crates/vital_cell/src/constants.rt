@@ -8,8 +8,8 @@ ghost use Rattle.vital_cell.specs.Scopes.{lent, named_worths, names_at, package_
 ghost use Rattle.vital_cell.specs.Sound.{tests};
 ghost use Rattle.vital_cell.specs.Values as spec;
 ghost use Rattle.vital_cell.specs.Worths.{lent as lent_worth};
-ghost use Rattle.vital_worths.specs.Expressions as typed;
-ghost use Rattle.vital_worths.specs.Packages.{package_worth, packages_worth};
+ghost use Rattle.vital_typed_cells.specs.Expressions as typed;
+ghost use Rattle.vital_typed_cells.specs.PackageWorths.{package_worth, packages_worth};
 
 use crate::name_numbers::NameNumbers;
 use crate::numbered_levels::numbered_level;

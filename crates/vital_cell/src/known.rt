@@ -3,12 +3,12 @@
 ghost use Rattle.std.specs.Prelude.{◌≡◌, ◌++◌, [], IfOk, OnOk, map};
 ghost use Rattle.std.specs.Option.{option_map};
 ghost use Rattle.vital_cell.specs.Compiled.{AreKnown};
-ghost use Rattle.vital_execution.specs.Environments.{control_of, control_worth};
+ghost use Rattle.vital_cell.specs.Environments.{control_of, control_worth};
 ghost use Rattle.vital_typed_cells.specs.SoundDeclarations.{AreSoundPackages};
 ghost use Rattle.vital_cell.specs.Scopes as scopes;
 ghost use Rattle.vital_cell.specs.Worths as worths;
 ghost use Rattle.vital_typed_cells.specs.Bits.{names_of};
-ghost use Rattle.vital_worths.specs.Packages as package_worths';
+ghost use Rattle.vital_typed_cells.specs.PackageWorths as package_worths';
 
 use crate::constants::package_worths;
 use crate::name_numbers::NameNumbers;

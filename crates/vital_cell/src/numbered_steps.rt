@@ -2,7 +2,7 @@
 
 ghost use Rattle.std.specs.Prelude.{◌≡◌, ◌≤◌, ◌+◌, ◌^◌, ◌<◌, ℕ, true, IfOk, length};
 ghost use Rattle.std.specs.List.{AllZip, enumerate_from, list_all};
-ghost use Rattle.vital_execution.specs.Statements.{edges};
+ghost use Rattle.vital_cell.specs.Statements.{edges};
 ghost use Rattle.vital_sections.specs.declared.timing_check.TimingCheck.TheVariants as timing;
 ghost use Rattle.vital_typed_cells.specs.SoundAssignments.{is_sound_value};
 ghost use Rattle.vital_typed_cells.specs.SoundSections.{are_sound_sections, is_sound_functional, is_sound_state_table};

@@ -2,7 +2,7 @@
 
 ghost use Rattle.std.specs.Prelude.{◌≡◌, true, IfOk};
 ghost use Rattle.std.specs.List.{list_all};
-ghost use Rattle.vital_execution.specs.Times as typed;
+ghost use Rattle.vital_cell.specs.Times as typed;
 ghost use Rattle.vital_typed_cells.specs.Trees.{is_sound_boolean, is_sound_level};
 ghost use Rattle.vital_cell.specs.Scopes.{lent};
 ghost use Rattle.vital_cell.specs.Sound.{tests};

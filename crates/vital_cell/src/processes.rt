@@ -3,7 +3,7 @@
 ghost use Rattle.std.specs.Prelude.{◌≡◌, ◌+◌, ◌*◌, ◌^◌, ◌<◌, ◌↔◌, ◌++◌, [], ◌∷◌, All, IfOk, IsTrue, OnOk, length, map};
 ghost use Rattle.vital_cell.specs.Compiled as spec;
 ghost use Rattle.vital_cell.specs.Short.{HasShort};
-ghost use Rattle.vital_execution.specs.Execution as execution;
+ghost use Rattle.vital_cell.specs.Execution as execution;
 ghost use Rattle.vital_machine.specs.Fits.{IsProcess};
 ghost use Rattle.vital_typed_cells.specs.Sound.{IsSound, IsSoundProcess};
 ghost use Rattle.vital_cell.specs.Scopes.{lent};

@@ -2,7 +2,7 @@
 
 ghost use Rattle.std.specs.Prelude.{◌≡◌, slice_get, unwrap_or};
 ghost use Rattle.std.specs.Option.{option_map};
-ghost use Rattle.vital_execution.specs.Environments.{constant_of, delay_named};
+ghost use Rattle.vital_cell.specs.Environments.{constant_of, delay_named};
 ghost use Rattle.vital_operands.specs.declared.tree.ConstantName.TheVariants as constant;
 ghost use Rattle.vital_cell.specs.Scopes as spec;
 ghost use Rattle.vital_cell.specs.Worths.{lent as lent_worth};

@@ -3,7 +3,7 @@
 ghost use Rattle.std.specs.Prelude.{◌≡◌, [], true, IfOk, OnOk, length, map, replicate};
 ghost use Rattle.std.specs.List.{AllZip, fold, list_all};
 ghost use Rattle.std.specs.Option.{option_map_or};
-ghost use Rattle.vital_execution.specs.Execution.{held_first};
+ghost use Rattle.vital_cell.specs.Execution.{held_first};
 ghost use Rattle.vital_logic.specs.declared.level.Level.TheVariants as level;
 ghost use Rattle.vital_machine.specs.Machine.{changed};
 ghost use Rattle.vital_typed_cells.specs.SoundDeclarations.{is_sound_kind};
@@ -13,7 +13,7 @@ ghost use Rattle.vital_cell.specs.Scopes.{lent, names_at};
 ghost use Rattle.vital_cell.specs.Sound.{tests};
 ghost use Rattle.vital_cell.specs.Values as spec;
 ghost use Rattle.vital_typed_cells.specs.Bits.{number_of};
-ghost use Rattle.vital_worths.specs.Expressions as typed;
+ghost use Rattle.vital_typed_cells.specs.Expressions as typed;
 
 use crate::constants::known_level;
 use crate::numbered_levels::numbered_vector;

@@ -2,10 +2,10 @@
 
 ghost use Rattle.std.specs.Prelude.{◌≡◌};
 ghost use Rattle.std.specs.Option.{option_map};
-ghost use Rattle.vital_execution.specs.Environments.{truth_in};
-ghost use Rattle.vital_execution.specs.Times.{delay_of, time_of};
+ghost use Rattle.vital_cell.specs.Environments.{truth_in};
+ghost use Rattle.vital_cell.specs.Times.{delay_of, time_of};
 ghost use Rattle.vital_cell.specs.Worths.{lent};
-ghost use Rattle.vital_worths.specs.Expressions.{level_of, rows_of};
+ghost use Rattle.vital_typed_cells.specs.Expressions.{level_of, rows_of};
 
 use sqlite_items::Items;
 use vital_base::Time;

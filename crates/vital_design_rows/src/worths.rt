@@ -13,8 +13,9 @@ use vital_library::Library;
 use vital_logic::to_byte;
 use vital_nodes::{Arch, Entity};
 use vital_objects::Port;
-use vital_typed_cells::{Checked, TypedPackages, check_cell};
-use vital_worths::{PackageLevels, level_of, levels_of_packages};
+use vital_typed_cells::{
+    Checked, PackageLevels, TypedPackages, check_cell, level_of, levels_of_packages,
+};
 
 /// The entity of a name with its first architecture, if it has one.
 fn cell_named<'a>(library: &'a Library, name: &str) -> Option<(&'a Entity, Option<&'a Arch>)>

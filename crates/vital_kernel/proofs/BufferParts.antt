@@ -3,7 +3,7 @@ use Rattle.std.proofs.Common.{◌≡◌, ℕ, List, [], ◌∷◌, Some, ap, sym
 use Rattle.std.specs.Prelude.{Bool, true, codes}
 use Rattle.vital_agenda.specs.Driver.{Driver}
 use Rattle.vital_agenda.specs.declared.transaction.Transaction.{Transaction}
-use Rattle.vital_execution.specs.Variables.{Glitch, Slot}
+use Rattle.vital_cell.specs.Variables.{Glitch, Slot}
 use Rattle.vital_logic.specs.declared.level.Level.{Level}
 use Rattle.vital_nodes.specs.declared.decl.Mode.TheVariants.{In, Out}
 use Rattle.vital_objects.specs.declared.variable.VariableKind.TheVariants as kind
@@ -19,7 +19,7 @@ use Rattle.vital_timing.specs.declared.delay.DelayType.TheVariants as types
 use Rattle.vital_timing.specs.declared.glitch_mode.GlitchMode.{GlitchMode}
 use Rattle.vital_typed_cells.specs.declared.process.CellProcess.{CellProcess}
 use Rattle.vital_typed_cells.specs.declared.typed_cell.TypedCell.{TypedCell}
-use Rattle.vital_worths.specs.Expressions.{Names, truth, truth_step}
+use Rattle.vital_typed_cells.specs.Expressions.{Names, truth, truth_step}
 use Rattle.vital_signals.specs.declared.signal.Signal.{Signal}
 use Rattle.vital_kernel.proofs.RowParts.{controls, port, signal, timing_generic, wire}
 

@@ -6,7 +6,7 @@ use Rattle.std.proofs.lemmas.List.{length-map}
 use Rattle.std.proofs.lemmas.List.FromFn.{length-enumerate_from}
 use Rattle.vital_agenda.specs.Agendas.{Content, advanced}
 use Rattle.vital_agenda.specs.Driver.{Driver, advance}
-use Rattle.vital_execution.specs.Variables.{Slot}
+use Rattle.vital_cell.specs.Variables.{Slot}
 use Rattle.vital_kernel.specs.Activations.{event_text_at, from_state, state_of, text_in}
 use Rattle.vital_kernel.specs.Cycles.{Part, all_activated, cycle_at, is_sensitive_to, new_values, updated}
 use Rattle.vital_kernel.specs.States.{State, values}

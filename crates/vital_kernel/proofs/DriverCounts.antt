@@ -2,7 +2,7 @@
 use Rattle.std.proofs.Common.{◌≡◌, ℕ, suc, ◌+◌, List, [], ◌∷◌, ◌++◌, length, map, take, drop, refl, sym, ap, ◌∙◌, arith}
 use Rattle.std.specs.List.{sum_by}
 use Rattle.std.proofs.lemmas.List.Sums.{sum_by-append, sum_by-cons, sum_by-take-drop}
-use Rattle.vital_execution.specs.Execution.{Executed, Process', Wire, drivers_of}
+use Rattle.vital_cell.specs.Execution.{Executed, Process', Wire, drivers_of}
 use Rattle.vital_kernel.specs.DesignNetworks.{driver_count}
 use Rattle.vital_typed_cells.specs.declared.process.CellProcess.{CellProcess}
 use Rattle.vital_typed_cells.specs.declared.typed_cell.TypedCell.{TypedCell}

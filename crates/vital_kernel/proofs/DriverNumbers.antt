@@ -4,7 +4,7 @@ use Rattle.std.proofs.Common.{◌≡◌, ℕ, suc, ◌+◌, List, [], ◌∷◌,
 use Rattle.std.specs.List.{flat_map, sum_by}
 use Rattle.std.proofs.lemmas.List.{length-map}
 use Rattle.std.proofs.lemmas.List.Sums.{sum_by-append, sum_by-cons}
-use Rattle.vital_execution.specs.Execution.{Executed, Process', Wire, drivers_of}
+use Rattle.vital_cell.specs.Execution.{Executed, Process', Wire, drivers_of}
 use Rattle.vital_netlist.specs.CellDrivers.{driven, driven_by}
 use Rattle.vital_typed_cells.specs.declared.process.CellProcess.{CellProcess}
 use Rattle.vital_typed_cells.specs.declared.typed_cell.TypedCell.{TypedCell}

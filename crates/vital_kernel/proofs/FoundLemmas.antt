@@ -5,7 +5,7 @@ use Rattle.std.specs.Option.{option_map}
 use Rattle.std.proofs.lemmas.List.{length-map}
 use Rattle.std.proofs.lemmas.Option.{same_Some, slice_get-map, slice_get_read, slice_get_within}
 use Rattle.vital_cell.specs.Programs.{StandsFor}
-use Rattle.vital_execution.specs.Execution.{all_executed}
+use Rattle.vital_cell.specs.Execution.{all_executed}
 use Rattle.vital_kernel.specs.Networks.{NetCell, NetProcess, lent_cell}
 use Rattle.vital_kernel.specs.declared.network.NetCell.{NetCell as NetCell'}
 use Rattle.vital_kernel.proofs.ListLemmas.{some-and, some-within, zipped-at}

@@ -2,7 +2,7 @@
 use Rattle.std.proofs.Common.{ℕ, List, [], ◌∷◌}
 use Rattle.std.specs.Prelude.{false, true, codes}
 use Rattle.vital_actuals.specs.declared.actual.Path.{Path}
-use Rattle.vital_execution.specs.Variables.{Slot}
+use Rattle.vital_cell.specs.Variables.{Slot}
 use Rattle.vital_logic.specs.declared.level.Level.TheVariants.{X}
 use Rattle.vital_nodes.specs.declared.decl.Mode.TheVariants.{Buffer, In}
 use Rattle.vital_nodes.specs.declared.expr.Logical.{Logical}

@@ -2,13 +2,13 @@
 use Rattle.std.proofs.Common.{◌≡◌, ℕ, List, [], ◌∷◌, refl}
 use Rattle.std.specs.Prelude.{false, codes}
 use Rattle.vital_agenda.specs.Driver.{Driver}
-use Rattle.vital_execution.specs.Variables.{Slot}
+use Rattle.vital_cell.specs.Variables.{Slot}
 use Rattle.vital_logic.specs.declared.level.Level.TheVariants.{U, X, Zero, One}
 use Rattle.vital_netlist.specs.Designs.{Design}
 use Rattle.vital_nodes.specs.declared.expr.Logical.TheVariants.{And}
 use Rattle.vital_stim.specs.declared.stimuli.StimLine.{StimLine}
 use Rattle.vital_timing.specs.declared.delay.Delay.TheVariants as delay
-use Rattle.vital_worths.proofs.TreeLemmas.{level-logical, level-signal}
+use Rattle.vital_typed_cells.proofs.TreeLemmas.{level-logical, level-signal}
 use Rattle.vital_kernel.specs.Cycles.{Event, Glitch, Happening, initial_run}
 use Rattle.vital_kernel.specs.DesignNetworks.{network}
 use Rattle.vital_kernel.specs.Lines.{run_lines}

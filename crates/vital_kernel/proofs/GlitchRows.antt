@@ -4,7 +4,7 @@ use Rattle.std.specs.Prelude.{Bool, false, true, codes}
 use Rattle.vital_agenda.specs.Driver.{Driver}
 use Rattle.vital_agenda.specs.declared.transaction.Transaction.{Transaction}
 use Rattle.vital_base.specs.declared.kind.Kind.TheVariants as kinds
-use Rattle.vital_execution.specs.Variables.{Slot}
+use Rattle.vital_cell.specs.Variables.{Slot}
 use Rattle.vital_logic.specs.declared.level.Level.TheVariants.{U, X, Zero, One}
 use Rattle.vital_machine.specs.declared.effect.Effect.TheVariants as effect
 use Rattle.vital_netlist.specs.Designs.{Design}
@@ -12,7 +12,7 @@ use Rattle.vital_timing.specs.declared.glitch_mode.GlitchMode.{GlitchMode}
 use Rattle.vital_timing.specs.declared.glitch_mode.GlitchMode.TheVariants.{Inertial, OnDetect, OnEvent, Transport}
 use Rattle.vital_timing_checks.specs.declared.violated.CheckKind.TheVariants.{Pulse, Setup}
 use Rattle.vital_timing_checks.specs.declared.violated.Violated.{Violated}
-use Rattle.vital_worths.proofs.TreeLemmas.{level-signal}
+use Rattle.vital_typed_cells.proofs.TreeLemmas.{level-signal}
 use Rattle.vital_kernel.specs.Cycles.{Event, Glitch, Happening, Violation, said, sent}
 use Rattle.vital_kernel.specs.DesignNetworks.{network}
 use Rattle.vital_kernel.specs.Lines.{lines_of}

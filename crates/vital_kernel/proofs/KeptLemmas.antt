@@ -6,7 +6,7 @@ use Rattle.std.proofs.lemmas.List.{length-map}
 use Rattle.std.proofs.lemmas.List.Elements.{All-weaker}
 use Rattle.std.proofs.lemmas.Option.{same_Some, slice_get_read}
 use Rattle.vital_typed_cells.specs.Fits.{FitsCell}
-use Rattle.vital_execution.specs.Variables as variables
+use Rattle.vital_cell.specs.Variables as variables
 use Rattle.vital_machine.specs.declared.effect.Effect.{Effect}
 use Rattle.vital_kernel.specs.Networks.{NetCell, NetProcess, Network, lent_cell, processes, processes_of}
 use Rattle.vital_kernel.specs.Soundness.{IsSoundCell, IsSoundNetwork}

@@ -6,7 +6,7 @@ use Rattle.std.specs.List.{All, enumerate_from, flat_map, range_with_len}
 use Rattle.std.proofs.lemmas.Grind.{flat_map-append}
 use Rattle.std.proofs.lemmas.List.{length-map, length-take, map-append, take_more}
 use Rattle.std.proofs.lemmas.List.Elements.{All-append, All-map, All-nil, All-weaker}
-use Rattle.vital_execution.specs.Execution.{Process', Wire, all_executed}
+use Rattle.vital_cell.specs.Execution.{Process', Wire, all_executed}
 use Rattle.vital_kernel.specs.Networks.{NetCell, Network, lent_cell, processes, processes_of}
 use Rattle.vital_kernel.specs.declared.network.NetCell.{NetCell as NetCell'}
 use Rattle.vital_kernel.proofs.ListLemmas.{map-map, numbered, numbered-more, numbers-alone}

@@ -3,7 +3,7 @@ use Rattle.std.proofs.Common.{◌≡◌, ◌∙◌, ℕ, ◌+◌, ◌-◌, ◌�
 use Rattle.std.specs.List.{enumerate_from, filter, flat_map}
 use Rattle.std.specs.Prelude.{All, slice_get}
 use Rattle.std.proofs.lemmas.Option.{get_or_from_slice_get, slice_get_within}
-use Rattle.vital_execution.specs.Execution.{Executed, all_executed}
+use Rattle.vital_cell.specs.Execution.{Executed, all_executed}
 use Rattle.vital_kernel.specs.Networks.{NetCell, NetProcess, Network, processes, processes_of}
 use Rattle.vital_kernel.specs.Soundness.{IsSoundCell, IsSoundNetwork}
 

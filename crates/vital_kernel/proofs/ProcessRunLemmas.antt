@@ -8,8 +8,8 @@ use Rattle.std.proofs.lemmas.List.FromFn.{length-enumerate_from}
 use Rattle.std.proofs.lemmas.Option.{get_or_from_slice_get, same_Some, slice_get-get_or, slice_get_within}
 use Rattle.std.proofs.lemmas.Slice.Zip.{AllZip-long}
 use Rattle.vital_cell.specs.Programs.{IsProcess, StandsFor, variables_of}
-use Rattle.vital_execution.specs.Execution as execution
-use Rattle.vital_execution.specs.Execution.{Executed, all_executed, exec, first_driver}
+use Rattle.vital_cell.specs.Execution as execution
+use Rattle.vital_cell.specs.Execution.{Executed, all_executed, exec, first_driver}
 use Rattle.vital_machine.specs.declared.input.Input.{Input}
 use Rattle.vital_machine.specs.declared.program.Process.{Process}
 use Rattle.vital_machine.specs.declared.slot.Slot.{Slot}

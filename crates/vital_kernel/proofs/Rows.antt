@@ -1,7 +1,7 @@
 -- The definitions of what processes see and of what their variables hold on worked rows, of which the answers were found by hand.
 use Rattle.std.proofs.Common.{◌≡◌, ℕ, List, [], ◌∷◌, Some, None, refl}
-use Rattle.vital_execution.specs.Execution.{Executed}
-use Rattle.vital_execution.specs.Variables.{Slot}
+use Rattle.vital_cell.specs.Execution.{Executed}
+use Rattle.vital_cell.specs.Variables.{Slot}
 use Rattle.vital_logic.specs.declared.level.Level.{Level}
 use Rattle.vital_logic.specs.declared.level.Level.TheVariants.{X, Zero, One, Z, U}
 use Rattle.vital_machine.specs.declared.input.Input.{Input}

@@ -3,8 +3,8 @@ use Rattle.std.proofs.Common.{◌≡◌, ℕ, ◌+◌, List, [], ◌∷◌, ◌+
 use Rattle.std.specs.Prelude.{OnOk, slice_get}
 use Rattle.std.specs.List.{enumerate_from, filter_map, flat_map}
 use Rattle.std.proofs.lemmas.List.{append_assoc, map-append}
-use Rattle.vital_execution.specs.Environments.{bit_of}
-use Rattle.vital_execution.specs.Execution.{Executed, Process', Wire, all_executed}
+use Rattle.vital_cell.specs.Environments.{bit_of}
+use Rattle.vital_cell.specs.Execution.{Executed, Process', Wire, all_executed}
 use Rattle.vital_kernel.specs.Sensitivities.{sensitivities_of}
 use Rattle.vital_kernel.specs.Networks.{NetCell, Network, bits_listed, processes, processes_of, sensitivity}
 use Rattle.vital_typed_cells.specs.declared.process.CellProcess.{CellProcess}

@@ -6,7 +6,7 @@ use Rattle.std.specs.Option.{option_map_or}
 use Rattle.std.proofs.lemmas.List.{map-append, take_all, take_more}
 use Rattle.std.proofs.lemmas.List.Elements.{All-append, All-head, All-tail}
 use Rattle.vital_cell.specs.Programs.{IsProcess, StandsFor}
-use Rattle.vital_execution.specs.Execution.{Executed, all_executed, start_of}
+use Rattle.vital_cell.specs.Execution.{Executed, all_executed, start_of}
 use Rattle.vital_machine.specs.declared.program.Process.{Process}
 use Rattle.vital_machine.specs.Programs.{ProgramParts, SlotLists}
 use Rattle.vital_kernel.specs.Networks.{NetCell, lent_cell}

@@ -3,7 +3,7 @@ use Rattle.std.specs.Prelude.{◌≡◌, ◌≤◌, ◌^◌, ℕ, List, [], leng
 use Rattle.std.specs.List.{flat_map}
 use Rattle.std.specs.Option.{option_map, option_map_or}
 use Rattle.vital_agenda.specs.Agendas.{Content}
-use Rattle.vital_execution.specs.Variables.{Slot}
+use Rattle.vital_cell.specs.Variables.{Slot}
 use Rattle.vital_kernel.specs.Cycles.{Happening, Part, all_activated}
 use Rattle.vital_kernel.specs.Lines.{lines_of}
 use Rattle.vital_kernel.specs.States.{State}

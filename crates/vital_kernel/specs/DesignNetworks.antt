@@ -4,7 +4,7 @@ use Rattle.std.specs.Prelude.{ℕ, ◌+◌, ◌==◌, nat_lt, Bool, true, List, 
 use Rattle.std.specs.List.{enumerate_from, filter_map, list_any, sum_by}
 use Rattle.std.specs.Option.{option_and_then, option_map}
 use Rattle.vital_base.specs.declared.ports.PortBit.{PortBit}
-use Rattle.vital_execution.specs.Execution.{all_executed, drivers_of}
+use Rattle.vital_cell.specs.Execution.{all_executed, drivers_of}
 use Rattle.vital_logic.specs.Levels.{level_of}
 use Rattle.vital_logic.specs.declared.level.Level.{Level}
 use Rattle.vital_logic.specs.declared.level.Level.TheVariants.{U}

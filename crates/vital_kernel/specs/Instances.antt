@@ -3,8 +3,8 @@ use Rattle.std.specs.Prelude.{◌≡◌, ◌^◌, ◌<◌, ◌≤◌, ℕ, List,
 use Rattle.std.specs.List.{AllZip, zip}
 use Rattle.std.specs.Option.{IsSomeAnd, option_map_or}
 use Rattle.vital_cell.specs.Programs.{StandsFor, variables_of}
-use Rattle.vital_execution.specs.Execution.{Executed, all_executed}
-use Rattle.vital_execution.specs.Variables as variables
+use Rattle.vital_cell.specs.Execution.{Executed, all_executed}
+use Rattle.vital_cell.specs.Variables as variables
 use Rattle.vital_machine.specs.declared.effect.Effect.{Effect}
 use Rattle.vital_machine.specs.declared.slot.Slot.{Slot}
 use Rattle.vital_machine.specs.Fits.{EffectIsOfCell, EndsInTime, FitsStore}

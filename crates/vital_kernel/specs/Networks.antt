@@ -1,8 +1,8 @@
 -- What a run simulates: signals, the drivers of them, and the instances of cells whose processes assign to these.
 use Rattle.std.specs.Prelude.{ℕ, List, [], ◌∷◌, ◌++◌, map, slice_get}
 use Rattle.std.specs.List.{enumerate_from, filter_map, flat_map}
-use Rattle.vital_execution.specs.Environments.{bit_of}
-use Rattle.vital_execution.specs.Execution.{Executed, Process', Wire, all_executed}
+use Rattle.vital_cell.specs.Environments.{bit_of}
+use Rattle.vital_cell.specs.Execution.{Executed, Process', Wire, all_executed}
 use Rattle.vital_kernel.specs.declared.network.NetCell.{NetCell as NetCell'}
 use Rattle.vital_kernel.specs.declared.network.NetSignal.{NetSignal}
 use Rattle.vital_netlist.specs.declared.design_lists.DesignDriver.{DesignDriver}

@@ -1,6 +1,6 @@
 -- Where the processes of a network are.
 use Rattle.std.specs.Prelude.{◌≡◌, ℕ, List, Some, slice_get}
-use Rattle.vital_execution.specs.Execution.{all_executed}
+use Rattle.vital_cell.specs.Execution.{all_executed}
 use Rattle.vital_kernel.specs.Networks.{NetCell, NetProcess}
 use Rattle.vital_kernel.specs.declared.places.Place.{Place}
 

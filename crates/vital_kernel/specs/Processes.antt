@@ -3,9 +3,9 @@ use Rattle.std.specs.Prelude.{ℕ, ◌-◌, List, [], map, length, slice_get, sl
 use Rattle.std.specs.List.{range_with_len}
 use Rattle.std.specs.Option.{option_map_or}
 use Rattle.vital_agenda.specs.Agendas.{changed}
-use Rattle.vital_execution.specs.Execution.{all_executed, exec, start}
-use Rattle.vital_execution.specs.Statements as statements
-use Rattle.vital_execution.specs.Variables.{Slot}
+use Rattle.vital_cell.specs.Execution.{all_executed, exec, start}
+use Rattle.vital_cell.specs.Statements as statements
+use Rattle.vital_cell.specs.Variables.{Slot}
 use Rattle.vital_machine.specs.Inputs.{absent}
 use Rattle.vital_machine.specs.declared.effect.Effect.{Effect}
 use Rattle.vital_machine.specs.declared.input.Input.{Input}

@@ -1,7 +1,7 @@
 -- The signals to which the processes of an instance of a cell are sensitive.
 use Rattle.std.specs.Prelude.{ℕ, List, map, slice_get}
 use Rattle.std.specs.List.{filter_map}
-use Rattle.vital_execution.specs.Execution.{all_executed}
+use Rattle.vital_cell.specs.Execution.{all_executed}
 use Rattle.vital_kernel.specs.Networks.{NetCell, bits_listed}
 
 -- For each of its processes, in order, the numbers of these signals.

@@ -1,7 +1,7 @@
 -- The states of a run.
 use Rattle.std.specs.Prelude.{ℕ, List, map}
 use Rattle.vital_agenda.specs.Driver.{Driver}
-use Rattle.vital_execution.specs.Variables.{Slot}
+use Rattle.vital_cell.specs.Variables.{Slot}
 use Rattle.vital_logic.specs.declared.level.Level.{Level}
 use Rattle.vital_kernel.specs.Networks.{Network, all_drivers}
 use Rattle.vital_signals.specs.Values.{values as given}

@@ -2,7 +2,7 @@
 
 ghost use Rattle.std.specs.Prelude.{◌≡◌, ◌^◌, ◌<◌, ◌++◌, IfOk, IfSome, OnOk, length, map};
 ghost use Rattle.std.specs.List.{enumerate_from, flat_map, range_with_len};
-ghost use Rattle.vital_execution.specs.Execution.{all_executed};
+ghost use Rattle.vital_cell.specs.Execution.{all_executed};
 ghost use Rattle.vital_kernel.specs.Networks.{lent_cell, processes_of};
 ghost use Rattle.vital_kernel.specs.Places.{place_in, place_of};
 

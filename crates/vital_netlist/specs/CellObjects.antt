@@ -7,7 +7,7 @@ use Rattle.vital_objects.specs.declared.port.Port.{Port as Port'}
 use Rattle.vital_objects.specs.declared.signal.Signal.{Signal as Signal'}
 use Rattle.vital_typed_cells.specs.declared.typed_cell.TypedCell.{TypedCell}
 use Rattle.vital_structure.specs.Shapes.{Scalar}
-use Rattle.vital_worths.specs.Packages.{level_in_packages}
+use Rattle.vital_typed_cells.specs.PackageWorths.{level_in_packages}
 
 -- Each port and each signal of a cell is one bit. The constants of packages have these values.
 abbrev pub object_of_port : List (Option PackageValue) → Port' → Object

@@ -13,8 +13,7 @@ use std::alloc::{AllocError, Global};
 use std::marker::Model;
 use vital_instances::{Instance, instances_are_good};
 use vital_library::Library;
-use vital_typed_cells::{Checked, TypedPackages};
-use vital_worths::{PackageLevels, levels_of_packages};
+use vital_typed_cells::{Checked, PackageLevels, TypedPackages, levels_of_packages};
 
 /// The cells of a design, each once however many instances it has, by their first instances. They are made once for a design. Contracts see
 /// them as the files of the library and the instances.

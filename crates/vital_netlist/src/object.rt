@@ -7,7 +7,7 @@ ghost use Rattle.vital_netlist.specs.CellObjects as spec;
 ghost use Rattle.vital_typed_cells.specs.Sound.{IsSound};
 ghost use Rattle.vital_typed_cells.specs.SoundDeclarations.{is_sound_port, names_in_packages};
 ghost use Rattle.vital_typed_cells.specs.Trees.{is_sound_level};
-ghost use Rattle.vital_worths.specs.Packages.{level_in_packages};
+ghost use Rattle.vital_typed_cells.specs.PackageWorths.{level_in_packages};
 
 use std::alloc::{AllocError, Global};
 use vital_connections::Object;
@@ -16,8 +16,7 @@ use vital_nodes::Shared;
 use vital_objects::{Port, Signal};
 use vital_operands::LevelExpr;
 use vital_structure::Shape;
-use vital_typed_cells::TypedCell;
-use vital_worths::{PackageLevels, level_of};
+use vital_typed_cells::{PackageLevels, TypedCell, level_of};
 
 /// The level of a default, if there is one.
 fn default_level(

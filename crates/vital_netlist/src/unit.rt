@@ -20,7 +20,7 @@ use vital_connections::{Object, Run, objects_of_signals, put_run, whole_run};
 use vital_instances::LibraryUnit;
 use vital_names::LibraryNames;
 use vital_structure::{Structure, StructureError};
-use vital_worths::PackageLevels;
+use vital_typed_cells::PackageLevels;
 
 /// What all instances of a unit have in common.
 #[derive(Drop)]

@@ -13,7 +13,7 @@ use crate::unit::Unit;
 use std::alloc::{AllocError, Global};
 use vital_instances::{Instance, unit_at};
 use vital_library::Library;
-use vital_worths::PackageLevels;
+use vital_typed_cells::PackageLevels;
 
 /// The unit of an entity, if it is kept.
 pub fn unit_in<'b, 'a>(units: &'b [Option<Unit<'a>>], entity: u32) -> Option<&'b Unit<'a>>

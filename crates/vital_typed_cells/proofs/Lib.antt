@@ -118,3 +118,10 @@ pub mod BehindNames
 pub mod StateStatements
 mod VerdictLemmas
 mod FitLemmas
+pub mod TreeLemmas
+pub mod SoundLemmas
+pub mod TableLemmas
+pub mod PackageLemmas
+pub mod CallLemmas
+pub mod PartLemmas
+mod WorthRows

@@ -32,3 +32,6 @@ pub mod SoundSections
 pub mod Sound
 pub mod Answers
 pub mod Fits
+pub mod Expressions
+pub mod PackageWorths
+pub mod SoundTrees

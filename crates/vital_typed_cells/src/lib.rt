@@ -12,17 +12,21 @@ mod declared_names;
 mod expr_laws;
 mod kept_states;
 mod laws;
+mod level;
 mod numbers;
+mod package_levels;
 mod process;
 mod section_laws;
 mod sound_packages;
 mod spelled_names;
 mod statement_laws;
+mod truth_table;
 mod typed_cell;
 mod typed_packages;
 mod value_laws;
 mod values;
 mod wire;
+mod worths;
 
 pub use actual_laws::{actuals_are_told, read_actuals_are_sound};
 pub use bit_numbers::BitNumbers;
@@ -33,9 +37,8 @@ pub use declared_names::{tree_names_are_formed, tree_names_differ};
 pub use expr_laws::{outcomes_are_told, read_trees_are_sound, read_vectors_fit};
 pub use kept_states::tree_states_differ;
 pub use laws::{scopes_are_whole, typed_is_sound};
-pub use numbers::{
-    bits_are_there, processes_stand_before_wires, tree_wires_are_apart, wires_have_generics,
-};
+pub use numbers::{bits_are_there, processes_stand_before_wires, tree_wires_are_apart, wires_have_generics};
+pub use package_levels::PackageLevels;
 pub use process::CellProcess;
 pub use section_laws::{read_state_tables_fit, read_statements_are_sound};
 pub use spelled_names::{ports_are_formed, timing_generics_are_formed};
@@ -45,3 +48,4 @@ pub use typed_packages::TypedPackages;
 pub use value_laws::{read_values_are_sound, values_are_told};
 pub use values::{Values, default_values};
 pub use wire::WireDelay;
+pub use worths::{level_of, levels_of_packages};

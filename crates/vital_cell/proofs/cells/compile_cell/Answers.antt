@@ -3,7 +3,7 @@ use Rattle.std.specs.Prelude.{slice_get}
 use Rattle.vital_cell.specs.Compiled.{IsCompiled}
 use Rattle.vital_cell.proofs.ScopeLemmas.{known_scope, names-behind, none-worth, scope-is, worths-known, worths-long}
 use Rattle.vital_cell.proofs.CellValueLemmas.{cell-sound-in}
-use Rattle.vital_execution.specs.Environments.{NamedWorth}
+use Rattle.vital_cell.specs.Environments.{NamedWorth}
 use Rattle.vital_objects.specs.declared.constant.Constant.{Constant}
 use Rattle.vital_cell.specs.Scopes.{Scope, named_worths, package_worths, truth_of}
 use Rattle.vital_cell.specs.Values.{AreSoundIn}

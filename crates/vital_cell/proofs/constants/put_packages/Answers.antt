@@ -5,7 +5,7 @@ use Rattle.vital_cell.specs.Scopes.{package_worths}
 use Rattle.vital_cell.specs.Sound.{tests}
 use Rattle.vital_cell.specs.Values.{only_packages}
 use Rattle.vital_cell.proofs.PackageLemmas.{package-sound, packages-turn, worths-none}
-use Rattle.vital_worths.specs.Packages.{package_worth}
+use Rattle.vital_typed_cells.specs.PackageWorths.{package_worth}
 use Rattle.vital_cell.proofs.constants.put_packages.Goals as goal
 
 pub loop-value-init : goal.loop-value-init

@@ -1,5 +1,5 @@
 use Rattle.std.proofs.Common.{◌+◌, ◌∷◌, ◌++◌, List, [], drop, length, sym, ◌∙◌, ap, subst, arith}
-use Rattle.vital_execution.specs.Environments.{NamedWorth}
+use Rattle.vital_cell.specs.Environments.{NamedWorth}
 use Rattle.vital_cell.specs.Scopes.{lent, named_worths}
 use Rattle.vital_cell.specs.Values.{AreSoundIn, named_worth, with_constants}
 use Rattle.vital_cell.proofs.ValueLemmas.{next-name, sound-turn, worths-turn}

@@ -4,7 +4,7 @@ use Rattle.vital_cell.specs.Compiled.{IsMadeProcess, IsSoundIn, values_in, with_
 use Rattle.vital_cell.proofs.CellProcessLemmas.{sound-in-values}
 use Rattle.vital_cell.proofs.ScopeLemmas.{front-long, names-behind, own-worths, values-made}
 use Rattle.vital_cell.proofs.CellValueLemmas.{process-sound-in}
-use Rattle.vital_execution.specs.Environments.{NamedWorth, cell_constants}
+use Rattle.vital_cell.specs.Environments.{NamedWorth, cell_constants}
 use Rattle.vital_objects.specs.declared.constant.Constant.{Constant}
 use Rattle.vital_cell.specs.Scopes.{Scope, lent, named_worths}
 use Rattle.vital_cell.specs.Values.{AreSoundIn, with_constants}

@@ -1,5 +1,5 @@
 use Rattle.std.proofs.Common.{[], sym, ◌∙◌, ap}
-use Rattle.vital_execution.specs.Execution.{held_first}
+use Rattle.vital_cell.specs.Execution.{held_first}
 use Rattle.vital_objects.specs.declared.variable.Variable.{Variable}
 use Rattle.vital_typed_cells.specs.SoundDeclarations.{is_sound_kind}
 use Rattle.vital_cell.specs.Scopes.{lent, names_at}

@@ -1,5 +1,5 @@
 use Rattle.std.proofs.Common.{◌+◌, length, sym, ap, ◌∙◌}
-use Rattle.vital_execution.specs.Execution.{all_executed}
+use Rattle.vital_cell.specs.Execution.{all_executed}
 use Rattle.vital_kernel.proofs.PlaceLemmas.{count-said, executed-long}
 use Rattle.vital_kernel.proofs.places.process_count.Goals as goal
 

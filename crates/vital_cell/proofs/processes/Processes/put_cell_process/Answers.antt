@@ -1,6 +1,6 @@
 use Rattle.std.proofs.Common.{◌+◌, ◌∙◌, ap}
 use Rattle.vital_cell.proofs.CellPutLemmas.{put-one}
-use Rattle.vital_execution.specs.Execution.{Process'}
+use Rattle.vital_cell.specs.Execution.{Process'}
 use Rattle.vital_cell.specs.Scopes.{lent}
 use Rattle.vital_cell.proofs.processes.Processes.put_cell_process.Goals as goal
 

@@ -1,6 +1,6 @@
 use Rattle.std.proofs.Common.{map, take}
 use Rattle.vital_cell.specs.Compiled.{ArePut}
-use Rattle.vital_execution.specs.Execution.{Process'}
+use Rattle.vital_cell.specs.Execution.{Process'}
 use Rattle.vital_cell.specs.Scopes.{lent}
 use Rattle.vital_cell.proofs.processes.Processes.put_cell_processes.Given as goal
 

@@ -1,6 +1,6 @@
 use Rattle.vital_cell.proofs.CellPutLemmas.{put-one}
 use Rattle.vital_cell.proofs.StepLemmas.{wire-is}
-use Rattle.vital_execution.specs.Execution.{Wire}
+use Rattle.vital_cell.specs.Execution.{Wire}
 use Rattle.vital_cell.specs.Scopes.{lent}
 use Rattle.vital_cell.proofs.processes.Processes.put_wire.Goals as goal
 

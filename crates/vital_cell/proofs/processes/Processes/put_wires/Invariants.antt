@@ -1,6 +1,6 @@
 use Rattle.std.proofs.Common.{map, take}
 use Rattle.vital_cell.specs.Compiled.{ArePut}
-use Rattle.vital_execution.specs.Execution.{Wire}
+use Rattle.vital_cell.specs.Execution.{Wire}
 use Rattle.vital_cell.specs.Scopes.{lent}
 use Rattle.vital_cell.proofs.processes.Processes.put_wires.Given as goal
 

@@ -1,5 +1,0 @@
-mod Rows
-mod TruthLemmas
-mod CheckRows
-mod DelayRows
-mod CellRows

@@ -1,7 +1,0 @@
-pub mod TreeLemmas
-pub mod SoundLemmas
-pub mod TableLemmas
-pub mod PackageLemmas
-pub mod CallLemmas
-pub mod PartLemmas
-mod Rows
