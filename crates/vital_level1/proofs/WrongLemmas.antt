@@ -4,7 +4,7 @@ use Rattle.std.specs.Prelude.{Bool, ◌||◌, ◌==◌, cond, Option}
 use Rattle.std.specs.List.{filter, filter_map}
 use Rattle.std.proofs.lemmas.List.Folds.{list_any-append}
 use Rattle.vital_nodes.specs.declared.unit.Units.{Units}
-use Rattle.vital_typed_statements.specs.declared.table_use.TableUse.{TableUse}
+use Rattle.vital_table_uses.specs.declared.table_use.TableUse.{TableUse}
 use Rattle.vital_nodes.proofs.Lists.{filter_map-one}
 use Rattle.vital_level1.specs.declared.package_names.NamedConstant.{NamedConstant}
 use Rattle.vital_level1.specs.Packages.{places_where}

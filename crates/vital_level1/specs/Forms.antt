@@ -16,9 +16,10 @@ use Rattle.vital_nodes.specs.declared.stmt.Stmt.TheViews.{out-Stmt}
 use Rattle.vital_nodes.specs.Nodes.{Node, Name, expression_if_there, sequentials}
 use Rattle.vital_nodes.specs.Walk.{nodes_of_all}
 use Rattle.vital_typed_declarations.specs.Declarations.{broken_values, in_interface, in_value}
-use Rattle.vital_typed_statements.specs.declared.table_use.TableUse.{TableUse}
+use Rattle.vital_table_uses.specs.declared.table_use.TableUse.{TableUse}
 use Rattle.vital_typed_statements.specs.Statements.{context, concurrent_call, statement_of}
-use Rattle.vital_typed_statements.specs.Uses.{call_uses, statement_uses, truth_use_at}
+use Rattle.vital_table_uses.specs.TableUses.{truth_use_at}
+use Rattle.vital_typed_statements.specs.Uses.{call_uses, statement_uses}
 use Rattle.vital_uses.specs.Nodes.{sited_declarations, sited_interface}
 use Rattle.vital_uses.specs.Parts.{value_of_decl}
 use Rattle.vital_uses.specs.Sited.{Sited}

@@ -12,7 +12,7 @@ use Rattle.vital_names.specs.Sites as sites
 use Rattle.vital_nodes.specs.declared.decl.Decl.{Decl}
 use Rattle.vital_nodes.specs.declared.decl.Object.{Object}
 use Rattle.vital_nodes.specs.declared.unit.Units.{Units}
-use Rattle.vital_typed_statements.specs.declared.table_use.TableUse.{TableUse}
+use Rattle.vital_table_uses.specs.declared.table_use.TableUse.{TableUse}
 use Rattle.vital_uses.specs.Sited.{Sited}
 use Rattle.vital_level1.specs.Uses.{first_constant, is_among, wrong_numbers}
 

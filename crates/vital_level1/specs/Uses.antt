@@ -13,9 +13,9 @@ use Rattle.vital_nodes.specs.declared.unit.Units.{Units}
 use Rattle.vital_operands.specs.Faults.{is_same_place}
 use Rattle.vital_operands.specs.Named.{where_holds}
 use Rattle.vital_package_constants.specs.Tables.{is_wrong_in, is_wrong_package}
-use Rattle.vital_typed_statements.specs.declared.table_use.TableUse.{TableUse}
-use Rattle.vital_typed_statements.specs.declared.table_use.UsedTable.{UsedTable}
-use Rattle.vital_typed_statements.specs.declared.table_use.UsedTable.TheVariants as used
+use Rattle.vital_table_uses.specs.declared.table_use.TableUse.{TableUse}
+use Rattle.vital_table_uses.specs.declared.table_use.UsedTable.{UsedTable}
+use Rattle.vital_table_uses.specs.declared.table_use.UsedTable.TheVariants as used
 use Rattle.vital_uses.specs.Nodes.{sited_declarations}
 use Rattle.vital_uses.specs.Sited.{Sited}
 use Rattle.vital_nodes.specs.Objects.{is_constant}

@@ -18,8 +18,9 @@ use vital_expr::Reader;
 use vital_names::{CellNames, CellUnit, ProcessNames};
 use vital_nodes::{Conc, Node, Reference, Stmt, call, nodes_of};
 use vital_operands::{Faults, Position};
+use vital_table_uses::TableUse;
 use vital_typed_declarations::{put_broken_in_interface, put_broken_in_regions};
-use vital_typed_statements::{TableUse, read_call, read_statement};
+use vital_typed_statements::{read_call, read_statement};
 use vital_uses::{CellStatements, ProcessUses, SitedNode};
 
 /// Puts where a concurrent call is not of its form at the end, and the tables that it uses.

@@ -22,8 +22,8 @@ use vital_declaration_clauses::{Region, Scope};
 use vital_names::{CellNames, CellUnit, Site};
 use vital_nodes::{Decl, Object, is_constant};
 use vital_package_constants::{is_wrong_in, is_wrong_package};
+use vital_table_uses::{TableUse, UsedTable};
 use vital_typed_declarations::{SitedDeclaration, sited_declarations};
-use vital_typed_statements::{TableUse, UsedTable};
 
 /// The constants of a cell with their sites, by the places of their identifiers.
 type CellConstants<'a> = BTreeMap<Place, (Site<'a>, &'a Object)>;

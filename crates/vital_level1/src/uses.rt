@@ -5,7 +5,7 @@ ghost use Rattle.std.specs.List.{filter_map, flat_map};
 ghost use Rattle.vital_expr.specs.Seen.{lent};
 ghost use Rattle.vital_level1.specs.Forms as spec;
 ghost use Rattle.vital_typed_declarations.specs.Declarations.{lent_sited};
-ghost use Rattle.vital_typed_statements.specs.Uses.{truth_use_at as truth_use_at'};
+ghost use Rattle.vital_table_uses.specs.TableUses.{truth_use_at as truth_use_at'};
 ghost use Rattle.vital_nodes.specs.Nodes.{expression_if_there};
 ghost use Rattle.vital_nodes.specs.Walk.{nodes_of_all as nodes_of_all'};
 ghost use Rattle.vital_nodes.specs.Seen.{seen};
@@ -16,8 +16,8 @@ use vital_expr::Reader;
 use vital_names::{CellNames, CellUnit};
 use vital_nodes::{Decl, Expr, Iface, Node, nodes_of};
 use vital_operands::{Faults, Position};
+use vital_table_uses::{TableUse, truth_use_at};
 use vital_typed_declarations::{SitedDeclaration, sited_declarations};
-use vital_typed_statements::{TableUse, truth_use_at};
 use vital_uses::SitedNode;
 
 /// Puts the truth table that a node uses at the end. Only a name uses one.

@@ -11,10 +11,10 @@ use Rattle.vital_nodes.specs.declared.unit.Units.{Units}
 use Rattle.vital_nodes.specs.Nodes.{Node}
 use Rattle.vital_tables.specs.Symbols.{allows}
 use Rattle.vital_tables.specs.Tables.{rows_of}
-use Rattle.vital_typed_statements.specs.declared.table_use.TableUse.{TableUse}
-use Rattle.vital_typed_statements.specs.declared.table_use.UsedTable.{UsedTable}
-use Rattle.vital_typed_statements.specs.declared.table_use.UsedTable.TheVariants as used
-use Rattle.vital_typed_statements.specs.Uses.{truth_use_at}
+use Rattle.vital_table_uses.specs.declared.table_use.TableUse.{TableUse}
+use Rattle.vital_table_uses.specs.declared.table_use.UsedTable.{UsedTable}
+use Rattle.vital_table_uses.specs.declared.table_use.UsedTable.TheVariants as used
+use Rattle.vital_table_uses.specs.TableUses.{truth_use_at}
 
 -- A constant whose value is no table of symbols breaks L1.3 in any case.
 abbrev pub is_wrong_in : TableUse → Scope → Object → Bool

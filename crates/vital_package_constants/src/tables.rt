@@ -12,8 +12,8 @@ use vital_expr::Reader;
 use vital_limits::is_long_table;
 use vital_names::LibraryNames;
 use vital_nodes::{Node, Object};
+use vital_table_uses::{TableUse, UsedTable, truth_use_at};
 use vital_tables::{Table, table_of};
-use vital_typed_statements::{TableUse, UsedTable, truth_use_at};
 
 /// Whether a call makes a table wrong. A value that is no table of symbols breaks the clause in any case.
 pub fn is_wrong_in(

@@ -19,8 +19,8 @@ use Rattle.vital_operands.specs.Calls.{TableActuals, table_actuals, table_items}
 use Rattle.vital_operands.specs.declared.tree.VectorExpr.{VectorExpr}
 use Rattle.vital_operands.specs.Named.{table_meant}
 use Rattle.vital_operands.specs.Positions.{meaning_at}
-use Rattle.vital_typed_statements.specs.declared.table_use.TableUse.{TableUse}
-use Rattle.vital_typed_statements.specs.Uses.{truth_use_at, truth_use_of, truth_use_with, used_meaning}
+use Rattle.vital_table_uses.specs.declared.table_use.TableUse.{TableUse}
+use Rattle.vital_table_uses.specs.TableUses.{truth_use_at, truth_use_of, truth_use_with, used_meaning}
 use Rattle.vital_nodes.specs.Names.{identifier_of}
 use Rattle.vital_typed_cells.specs.Calls.{HasActuals, HasTable, HasTableAt, HasTables}
 use Rattle.vital_typed_cells.specs.ExprScopes.{Scope}

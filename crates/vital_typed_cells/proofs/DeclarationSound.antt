@@ -38,7 +38,7 @@ use Rattle.vital_typed_declarations.specs.declared.value.TypedValue.TheVariants 
 use Rattle.vital_typed_declarations.specs.Asked.{of_object, of_object_class, of_range, of_variable}
 use Rattle.vital_typed_declarations.specs.Declarations.{in_value, object_value}
 use Rattle.vital_uses.specs.Nodes.{sited_declarations}
-use Rattle.vital_typed_statements.specs.Uses.{truth_use_at}
+use Rattle.vital_table_uses.specs.TableUses.{truth_use_at}
 use Rattle.vital_uses.specs.Parts.{asked_of_decl, asked_of_subtype, value_of_decl}
 use Rattle.vital_uses.specs.Sited.{Sited}
 use Rattle.vital_typed_cells.specs.Trees.{is_sound_level, is_sound_vector}

@@ -30,7 +30,7 @@ use Rattle.vital_typed_declarations.specs.declared.value.TypedValue.{TypedValue}
 use Rattle.vital_typed_declarations.specs.declared.value.TypedValue.TheVariants as value
 use Rattle.vital_typed_declarations.specs.Asked.{of_generic, of_port}
 use Rattle.vital_typed_declarations.specs.Declarations.{default_value, generic_value, in_interface}
-use Rattle.vital_typed_statements.specs.Uses.{truth_use_at}
+use Rattle.vital_table_uses.specs.TableUses.{truth_use_at}
 use Rattle.vital_uses.specs.Nodes.{sited_interface}
 use Rattle.vital_uses.specs.Parts.{asked_of_port, asked_of_subtype}
 use Rattle.vital_uses.specs.Sited.{Sited}

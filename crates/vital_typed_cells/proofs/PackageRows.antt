@@ -18,8 +18,8 @@ use Rattle.vital_objects.specs.PackageValues.{value_at}
 use Rattle.vital_operands.specs.declared.tree.ConstantName.TheVariants as constant
 use Rattle.vital_operands.specs.Named.{is_table_type}
 use Rattle.vital_package_constants.specs.Tables.{is_wrong_in, is_wrong_package}
-use Rattle.vital_typed_statements.specs.declared.table_use.UsedTable.TheVariants as used
-use Rattle.vital_typed_statements.specs.Uses.{use_of}
+use Rattle.vital_table_uses.specs.declared.table_use.UsedTable.TheVariants as used
+use Rattle.vital_table_uses.specs.TableUses.{use_of}
 use Rattle.vital_nodes.specs.Objects.{is_constant}
 use Rattle.vital_typed_cells.specs.Fitting.{are_parted, is_table}
 use Rattle.vital_typed_cells.specs.Named.{has_package_rows}

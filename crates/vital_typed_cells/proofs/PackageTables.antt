@@ -24,9 +24,9 @@ use Rattle.vital_operands.specs.declared.tree.ConstantName.TheVariants as consta
 use Rattle.vital_operands.specs.declared.tree.VectorExpr.{VectorExpr}
 use Rattle.vital_operands.specs.Named.{columns_of_value, is_table, is_table_type}
 use Rattle.vital_package_constants.specs.Tables.{is_wrong_package, makes_wrong, makes_wrong_at}
-use Rattle.vital_typed_statements.specs.declared.table_use.TableUse.{TableUse}
-use Rattle.vital_typed_statements.specs.declared.table_use.UsedTable.TheVariants as used
-use Rattle.vital_typed_statements.specs.Uses.{truth_use_at, truth_use_with, use_of}
+use Rattle.vital_table_uses.specs.declared.table_use.TableUse.{TableUse}
+use Rattle.vital_table_uses.specs.declared.table_use.UsedTable.TheVariants as used
+use Rattle.vital_table_uses.specs.TableUses.{truth_use_at, truth_use_with, use_of}
 use Rattle.vital_nodes.specs.Objects.{is_constant}
 use Rattle.vital_typed_cells.specs.Calls.{HasTable, HasTables}
 use Rattle.vital_typed_cells.specs.SoundDeclarations.{names_in_packages}

@@ -28,10 +28,10 @@ use Rattle.vital_operands.specs.Named.{columns_of_value, is_table, is_table_type
 use Rattle.vital_operands.specs.Positions.{meaning_at}
 use Rattle.vital_sections.specs.Given as given
 use Rattle.vital_typed_cells.specs.Packages.{sound_values}
-use Rattle.vital_typed_statements.specs.declared.table_use.UsedTable.{UsedTable}
-use Rattle.vital_typed_statements.specs.declared.table_use.UsedTable.TheVariants as used
+use Rattle.vital_table_uses.specs.declared.table_use.UsedTable.{UsedTable}
+use Rattle.vital_table_uses.specs.declared.table_use.UsedTable.TheVariants as used
 use Rattle.vital_typed_statements.specs.StateTables.{columns_in}
-use Rattle.vital_typed_statements.specs.Uses.{use_of, used_declared, used_meaning, used_table}
+use Rattle.vital_table_uses.specs.TableUses.{use_of, used_declared, used_meaning, used_table}
 use Rattle.vital_nodes.specs.Items.{actual as actual_given}
 use Rattle.vital_nodes.specs.Names.{identifier_of}
 use Rattle.vital_nodes.specs.Objects.{is_constant}

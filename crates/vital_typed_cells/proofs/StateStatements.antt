@@ -30,11 +30,12 @@ use Rattle.vital_sections.specs.StateTables.{state_table}
 use Rattle.vital_statements.specs.Called.{call_in, procedure_of}
 use Rattle.vital_statements.specs.Sites.{site_at}
 use Rattle.vital_typed_statements.specs.declared.statement.TypedStatement.TheVariants as statement
-use Rattle.vital_typed_statements.specs.declared.table_use.TableUse.{TableUse}
+use Rattle.vital_table_uses.specs.declared.table_use.TableUse.{TableUse}
 use Rattle.vital_typed_statements.specs.StateTables.{results_of}
 use Rattle.vital_declarations.specs.declared.declared_type.TableType.TheVariants as table
 use Rattle.vital_typed_statements.specs.Statements.{call_meant, call_of_procedure, context, statement_in}
-use Rattle.vital_typed_statements.specs.Uses.{parting, state_table as used_in, statement_uses, use_of, uses_meant, uses_of_procedure}
+use Rattle.vital_table_uses.specs.TableUses.{use_of}
+use Rattle.vital_typed_statements.specs.Uses.{parting, state_table as used_in, statement_uses, uses_meant, uses_of_procedure}
 use Rattle.vital_typed_cells.specs.ActualPositions.{IsActualScopeOf}
 use Rattle.vital_typed_cells.specs.ActualScopes.{ActualScope}
 use Rattle.vital_typed_cells.specs.SoundActuals.{is_sound_target}

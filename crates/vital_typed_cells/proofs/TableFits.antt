@@ -11,8 +11,8 @@ use Rattle.vital_objects.specs.declared.constant.Constant.{Constant}
 use Rattle.vital_operands.specs.declared.tree.ConstantName.TheVariants as constant
 use Rattle.vital_operands.specs.Named.{is_table_type}
 use Rattle.vital_typed_cells.specs.Packages.{sound_values}
-use Rattle.vital_typed_statements.specs.declared.table_use.UsedTable.TheVariants as used
-use Rattle.vital_typed_statements.specs.Uses.{use_of}
+use Rattle.vital_table_uses.specs.declared.table_use.UsedTable.TheVariants as used
+use Rattle.vital_table_uses.specs.TableUses.{use_of}
 use Rattle.vital_typed_cells.specs.Fitting.{are_parted, is_table}
 use Rattle.vital_typed_cells.proofs.CellTables.{CellTable}
 use Rattle.vital_typed_cells.proofs.NamedConstants.{Known, known-table}

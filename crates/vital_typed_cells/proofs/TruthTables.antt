@@ -23,8 +23,8 @@ use Rattle.vital_operands.specs.declared.tree.VectorExpr.{VectorExpr}
 use Rattle.vital_operands.specs.Named.{columns_of_value, is_table, is_table_type, table_meant}
 use Rattle.vital_operands.specs.Positions.{meaning_at}
 use Rattle.vital_typed_cells.specs.Packages.{sound_values}
-use Rattle.vital_typed_statements.specs.declared.table_use.UsedTable.TheVariants as used
-use Rattle.vital_typed_statements.specs.Uses.{truth_use_at, truth_use_with, used_meaning}
+use Rattle.vital_table_uses.specs.declared.table_use.UsedTable.TheVariants as used
+use Rattle.vital_table_uses.specs.TableUses.{truth_use_at, truth_use_with, used_meaning}
 use Rattle.vital_nodes.specs.Objects.{is_constant}
 use Rattle.vital_typed_cells.specs.Calls.{HasTable, HasTableAt}
 use Rattle.vital_typed_cells.specs.SoundValues.{HasTablesIn}

@@ -9,9 +9,9 @@ use Rattle.vital_level1.specs.Uses.{is_among, is_wrong_at, wrong_by, wrong_numbe
 use Rattle.vital_declaration_clauses.specs.Regions.{Region, regions}
 use Rattle.vital_names.specs.Sites.{Cell}
 use Rattle.vital_package_constants.specs.Tables.{is_wrong_package}
-use Rattle.vital_typed_statements.specs.declared.table_use.TableUse.{TableUse}
-use Rattle.vital_typed_statements.specs.declared.table_use.UsedTable.{UsedTable}
-use Rattle.vital_typed_statements.specs.declared.table_use.UsedTable.TheVariants as used
+use Rattle.vital_table_uses.specs.declared.table_use.TableUse.{TableUse}
+use Rattle.vital_table_uses.specs.declared.table_use.UsedTable.{UsedTable}
+use Rattle.vital_table_uses.specs.declared.table_use.UsedTable.TheVariants as used
 use Rattle.vital_uses.specs.Nodes.{sited_declarations, sited_interface}
 use Rattle.vital_uses.specs.Statements.{processes, statements}
 use Rattle.vital_typed_cells.proofs.Found.{weaker}

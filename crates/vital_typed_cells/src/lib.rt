@@ -37,7 +37,9 @@ pub use declared_names::{tree_names_are_formed, tree_names_differ};
 pub use expr_laws::{outcomes_are_told, read_trees_are_sound, read_vectors_fit};
 pub use kept_states::tree_states_differ;
 pub use laws::{scopes_are_whole, typed_is_sound};
-pub use numbers::{bits_are_there, processes_stand_before_wires, tree_wires_are_apart, wires_have_generics};
+pub use numbers::{
+    bits_are_there, processes_stand_before_wires, tree_wires_are_apart, wires_have_generics,
+};
 pub use package_levels::PackageLevels;
 pub use process::CellProcess;
 pub use section_laws::{read_state_tables_fit, read_statements_are_sound};

@@ -16,8 +16,8 @@ ghost use Rattle.vital_typed_statements.specs.declared.statement.TypedStatement.
 
 use crate::given::{GivenActual, GivenActuals, read_all_given};
 use crate::state_table::{fits, has_too_many_states, has_wrong_inputs, has_wrong_kept};
+use crate::state_use::state_use;
 use crate::statement::TypedStatement;
-use crate::table_use::{TableUse, state_use};
 use sqlite_items::Items;
 use std::alloc::AllocError;
 use vital_actuals::{place_given, put_fault};
@@ -28,6 +28,7 @@ use vital_expr::Reader;
 use vital_names::{CellNames, Procedure, ProcessNames, Site};
 use vital_nodes::{Item, Node, Reference};
 use vital_statements::{procedure_of, site_at};
+use vital_table_uses::TableUse;
 
 /// Puts the place of the actual for the formal of a name at the end, unless a name in it breaks another clause.
 fn put_breach(

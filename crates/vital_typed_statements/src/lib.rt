@@ -4,10 +4,9 @@
 mod call;
 mod given;
 mod state_table;
+mod state_use;
 mod statement;
-mod table_use;
 
 pub use call::read_call;
 pub use given::GivenActual;
 pub use statement::{TypedStatement, Value, read_statement};
-pub use table_use::{TableUse, UsedTable, truth_use_at};

@@ -11,7 +11,6 @@ ghost use Rattle.vital_typed_statements.specs.Uses.{statement_uses};
 
 use crate::call::read_call;
 use crate::given::GivenActual;
-use crate::table_use::TableUse;
 use sqlite_items::Items;
 use std::alloc::AllocError;
 use vital_actuals::{Target, read_target};
@@ -20,6 +19,7 @@ use vital_expr::{Reader, Trees, boolean, level, vector};
 use vital_names::{CellNames, Procedure, ProcessNames};
 use vital_nodes::{Branch, Expr, Stmt, VariableAssignment};
 use vital_operands::{BooleanExpr, LevelExpr, VectorExpr};
+use vital_table_uses::TableUse;
 
 /// A value that is assigned.
 #[derive(Drop)]

@@ -1,6 +1,6 @@
 use Rattle.std.proofs.Common.{refl, arith}
 use Rattle.vital_expr.specs.Seen.{lent}
-use Rattle.vital_typed_statements.specs.Uses.{truth_use_at}
+use Rattle.vital_table_uses.specs.TableUses.{truth_use_at}
 use Rattle.vital_uses.specs.declared.sited.SitedNode.{SitedNode}
 use Rattle.vital_nodes.specs.Seen.{seen}
 use Rattle.vital_nodes.proofs.Lists.{filter_map-seen, turn-behind}

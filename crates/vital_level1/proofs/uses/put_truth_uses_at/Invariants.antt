@@ -1,7 +1,7 @@
 use Rattle.std.proofs.Common.{◌≡◌, ◌++◌, map, take}
 use Rattle.std.specs.List.{filter_map}
 use Rattle.vital_expr.specs.Seen.{lent}
-use Rattle.vital_typed_statements.specs.Uses.{truth_use_at}
+use Rattle.vital_table_uses.specs.TableUses.{truth_use_at}
 use Rattle.vital_nodes.specs.Seen.{seen}
 use Rattle.vital_level1.proofs.uses.put_truth_uses_at.Given as goal
 
