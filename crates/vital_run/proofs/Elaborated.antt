@@ -14,12 +14,12 @@ use Rattle.vital_netlist.specs.declared.net_fault.ElabError.{ElabError}
 use Rattle.vital_netlist.specs.declared.net_fault.ElabError.TheVariants as elab
 use Rattle.vital_netlist.specs.Refusals.{IsDesigned, lent_error, refusal_of}
 use Rattle.vital_nodes.specs.declared.unit.Units.{Units}
-use Rattle.vital_run.specs.Answer.{Answer}
-use Rattle.vital_run.specs.Designs.{IsElaboratedAnswer, IsUnderAnswer, refused_design}
-use Rattle.vital_run.specs.Given.{GivesDesignRefusal}
+use Rattle.vital_answers.specs.Answer.{Answer}
+use Rattle.vital_answers.specs.Designs.{IsElaboratedAnswer, IsUnderAnswer, refused_design}
+use Rattle.vital_answers.specs.Given.{GivesDesignRefusal}
 use Rattle.vital_run.specs.Simulations.{IsSimAnswer}
 use Rattle.vital_run.specs.Stages.{IsSimulatedAnswer}
-use Rattle.vital_run.specs.declared.loading.Source.{Source}
+use Rattle.vital_answers.specs.declared.loading.Source.{Source}
 use Rattle.vital_sdf.specs.declared.group.SdfFile.{SdfFile}
 use Rattle.vital_words.specs.declared.job.NamedFile.{NamedFile}
 use Rattle.vital_words.specs.declared.job.Sim.{Sim}

@@ -5,14 +5,14 @@ use Rattle.std.proofs.lemmas.List.{append-nil}
 use Rattle.vital_base.specs.Shelves.{Files}
 use Rattle.vital_base.specs.Sinks.{Told}
 use Rattle.vital_report.specs.Reporters.{PrinterState}
-use Rattle.vital_run.specs.Answer.{Answer}
-use Rattle.vital_run.specs.Outcome.{Gives, complete, reading_failed, writing_failed, memory_failed, is_failure, PrintsAnswer, all, nothing, until_fault, until_no_memory, Finishes, left, written, failed}
+use Rattle.vital_answers.specs.Answer.{Answer}
+use Rattle.vital_answers.specs.Outcome.{Gives, complete, reading_failed, writing_failed, memory_failed, is_failure, PrintsAnswer, all, nothing, until_fault, until_no_memory, Finishes, left, written, failed}
 use Rattle.vital_run.specs.Stages.{IsJobAnswer, IsOnlyAnswer}
-use Rattle.vital_run.specs.declared.status.Status.{Status}
-use Rattle.vital_run.specs.declared.status.Status.TheVariants as status
+use Rattle.vital_answers.specs.declared.status.Status.{Status}
+use Rattle.vital_answers.specs.declared.status.Status.TheVariants as status
 use Rattle.vital_run.proofs.OneAnswer.{Laws, given}
-use Rattle.vital_run.proofs.Printing.{if_also}
-use Rattle.vital_run.proofs.Texts.{printed_then, stopped_then, sink_got, sink_got_part, sink_stopped, prefix_of_first}
+use Rattle.vital_answers.proofs.Printing.{if_also}
+use Rattle.vital_answers.proofs.Texts.{printed_then, stopped_then, sink_got, sink_got_part, sink_stopped, prefix_of_first}
 use Rattle.vital_words.specs.Jobs.{job}
 
 -- an answer's status is that of no failure

@@ -4,11 +4,11 @@ use Rattle.vital_library.specs.Gathered.{GivesLibrary}
 use Rattle.vital_library.specs.declared.error.LibraryError.{LibraryError}
 use Rattle.vital_library.specs.declared.error.LibraryError.TheVariants as library
 use Rattle.vital_nodes.specs.declared.unit.Units.{Units}
-use Rattle.vital_run.specs.Answer.{Answer}
-use Rattle.vital_run.specs.Refusals.{refused_at, IsLibraryRefusal}
+use Rattle.vital_answers.specs.Answer.{Answer}
+use Rattle.vital_answers.specs.Refusals.{refused_at, IsLibraryRefusal}
 use Rattle.vital_run.specs.Stages.{IsLibraryAnswer}
-use Rattle.vital_run.specs.declared.loading.Source.{Source}
-use Rattle.vital_run.specs.declared.refusal.Refusal.{Refusal}
+use Rattle.vital_answers.specs.declared.loading.Source.{Source}
+use Rattle.vital_answers.specs.declared.refusal.Refusal.{Refusal}
 use Rattle.vital_sdf.specs.declared.group.SdfFile.{SdfFile}
 use Rattle.vital_words.specs.declared.job.Job.{Job}
 

@@ -13,14 +13,14 @@ use Rattle.vital_kernel.specs.Networks.{Network}
 use Rattle.vital_report.specs.Lines.{Said, bytes_of, end, refused_delta, text_of, version}
 use Rattle.vital_report.specs.Reporters.{PrinterState, Printed, Stopped}
 use Rattle.vital_stim.specs.declared.stimuli.StimLine.{StimLine}
-use Rattle.vital_run.specs.Answer.{Answer, refused}
-use Rattle.vital_run.specs.Outcome.{PrintsAnswer, Stage, all, nothing, until_fault, until_no_memory}
+use Rattle.vital_answers.specs.Answer.{Answer, refused}
+use Rattle.vital_answers.specs.Outcome.{PrintsAnswer, Stage, all, nothing, until_fault, until_no_memory}
 use Rattle.vital_run.specs.Runs.{IsRunAnswer, run_answer, run_text}
-use Rattle.vital_run.specs.declared.status.Status.{Status}
-use Rattle.vital_run.specs.declared.status.Status.TheVariants.{DeltaLimit, Done, NoMemory, ReadFault, WriteFault}
+use Rattle.vital_answers.specs.declared.status.Status.{Status}
+use Rattle.vital_answers.specs.declared.status.Status.TheVariants.{DeltaLimit, Done, NoMemory, ReadFault, WriteFault}
 use Rattle.vital_run.proofs.OneRun.{only_told, told_of}
-use Rattle.vital_run.proofs.Parts.{Part, part_begins, part_breaks_in, part_ends, part_goes_on, part_stops}
-use Rattle.vital_run.proofs.Printing.{stage_breaks, stage_for, stage_stops}
+use Rattle.vital_answers.proofs.Parts.{Part, part_begins, part_breaks_in, part_ends, part_goes_on, part_stops}
+use Rattle.vital_answers.proofs.Printing.{stage_breaks, stage_for, stage_stops}
 
 -- ---- a part of an answer, and then its last line
 

@@ -29,31 +29,32 @@ use Rattle.vital_stim.specs.declared.fault.StimFault.{StimFault}
 use Rattle.vital_stim.specs.declared.stimuli.StimLine.{StimLine}
 use Rattle.vital_stim.specs.declared.stimuli.Stimuli.{Stimuli}
 use Rattle.vital_timing.specs.declared.delay.Delay.{Delay}
-use Rattle.vital_run.specs.Answer.{Answer, ◌>>=◌, not_there, nothing_told}
-use Rattle.vital_run.specs.Cells.{IsCellsAnswer, cells, cells_answer}
-use Rattle.vital_run.specs.Designs.{IsElaboratedAnswer, IsUnderAnswer, refused_design}
-use Rattle.vital_run.specs.Loading.{all_loaded}
-use Rattle.vital_run.specs.Outcome.{Gives, memory_failed}
+use Rattle.vital_answers.specs.Answer.{Answer, ◌>>=◌, not_there, nothing_told}
+use Rattle.vital_answers.specs.Cells.{IsCellsAnswer, cells, cells_answer}
+use Rattle.vital_answers.specs.Designs.{IsElaboratedAnswer, IsUnderAnswer, refused_design}
+use Rattle.vital_answers.specs.Loading.{all_loaded}
+use Rattle.vital_answers.specs.Outcome.{Gives, memory_failed}
 use Rattle.vital_annotate.specs.Annotations.{Outcome, annotated}
-use Rattle.vital_run.specs.Reading.{AreRead, Continues, IsOfEntries, IsOfUnits, IsRead, IsSdfRead, IsVhdlRead, tokens_of, with_file}
-use Rattle.vital_run.specs.Refusals.{refused_words, printed_fault, text_refusal, IsFileRefusal, IsSdfRefusal, refused_at, IsLibraryRefusal}
+use Rattle.vital_answers.specs.Reading.{AreRead, Continues, IsOfEntries, IsOfUnits, IsRead, IsSdfRead, IsVhdlRead, tokens_of, with_file}
+use Rattle.vital_answers.specs.Refusals.{refused_words, printed_fault, text_refusal, IsFileRefusal, IsSdfRefusal, refused_at, IsLibraryRefusal}
 use Rattle.vital_run.specs.Runs.{IsRunAnswer}
 use Rattle.vital_run.specs.Selves.{drawn_by, self_answer, self_job, self_sources}
-use Rattle.vital_run.specs.Simulations.{IsAnnotatedAnswer, IsSimAnswer, IsStimulatedAnswer, before, note_line, simulated}
+use Rattle.vital_answers.specs.Answer.{before}
+use Rattle.vital_run.specs.Simulations.{IsAnnotatedAnswer, IsSimAnswer, IsStimulatedAnswer, note_line, simulated}
 use Rattle.vital_run.specs.Stages.{IsPlayAnswer, IsSimulatedAnswer, IsTaskAnswer, IsLibraryAnswer, IsReadAnswer, IsLoadedAnswer, IsSelfAnswer, IsAskedAnswer, IsJobAnswer, IsOnlyAnswer}
 use Rattle.vital_run.specs.Stimuli.{IsStimuliAnswer, IsReadStimuliAnswer, refused_stimuli}
-use Rattle.vital_run.specs.Trees.{IsTreeAnswer, tree_lines}
-use Rattle.vital_run.specs.declared.loading.Source.{Source}
-use Rattle.vital_run.specs.declared.reading.ReadFile.{ReadFile}
-use Rattle.vital_run.specs.declared.reading.ReadFile.TheVariants as file
-use Rattle.vital_run.specs.declared.reading.ReadFiles.{ReadFiles}
-use Rattle.vital_run.specs.declared.refusal.Refusal.{Refusal}
-use Rattle.vital_run.specs.declared.refusal.Refusal.TheVariants as refusals
-use Rattle.vital_run.specs.declared.status.Status.{Status}
-use Rattle.vital_run.specs.declared.status.Status.TheVariants.{Done, NoMemory}
-use Rattle.vital_run.proofs.Checked.{is_answer}
+use Rattle.vital_answers.specs.Trees.{IsTreeAnswer, tree_lines}
+use Rattle.vital_answers.specs.declared.loading.Source.{Source}
+use Rattle.vital_answers.specs.declared.reading.ReadFile.{ReadFile}
+use Rattle.vital_answers.specs.declared.reading.ReadFile.TheVariants as file
+use Rattle.vital_answers.specs.declared.reading.ReadFiles.{ReadFiles}
+use Rattle.vital_answers.specs.declared.refusal.Refusal.{Refusal}
+use Rattle.vital_answers.specs.declared.refusal.Refusal.TheVariants as refusals
+use Rattle.vital_answers.specs.declared.status.Status.{Status}
+use Rattle.vital_answers.specs.declared.status.Status.TheVariants.{Done, NoMemory}
+use Rattle.vital_answers.proofs.Checked.{is_answer}
 use Rattle.vital_run.proofs.Elaborated.{elaborated_by}
-use Rattle.vital_run.proofs.Judged.{some_finding}
+use Rattle.vital_answers.proofs.Judged.{some_finding}
 use Rattle.vital_run.proofs.OneRun.{OneRun, only_told, run_told, stimuli_told, told_of, told_of_stimuli}
 use Rattle.vital_sdf.specs.Outcomes as sdf
 use Rattle.vital_sdf.specs.declared.group.SdfFile.{SdfFile}

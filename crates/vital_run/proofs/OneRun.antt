@@ -8,7 +8,7 @@ use Rattle.vital_kernel.specs.Networks.{Network}
 use Rattle.vital_kernel.specs.PortNetworks.{port_network}
 use Rattle.vital_stim.specs.declared.stimuli.StimLine.{StimLine}
 use Rattle.vital_stim.specs.declared.stimuli.Stimuli.{Stimuli}
-use Rattle.vital_run.specs.Answer.{Answer}
+use Rattle.vital_answers.specs.Answer.{Answer}
 use Rattle.vital_run.specs.Runs.{IsRunAnswer, run_answer}
 use Rattle.vital_run.specs.Stimuli.{IsStimuliAnswer}
 

@@ -13,10 +13,10 @@ use Rattle.vital_kernel.specs.Lines.{run_lines}
 use Rattle.vital_report.specs.Lines.{end, event, events, init, line_of, messages, self_head, text_of}
 use Rattle.vital_kernel.specs.PortNetworks.{port_network}
 use Rattle.vital_kernel.specs.Runs.{whole_run}
-use Rattle.vital_run.specs.Answer.{Answer}
+use Rattle.vital_answers.specs.Answer.{Answer}
 use Rattle.vital_run.specs.Runs.{run_answer}
 use Rattle.vital_run.specs.Selves.{last_text, self_answer}
-use Rattle.vital_run.specs.declared.status.Status.TheVariants.{DeltaLimit, Done}
+use Rattle.vital_answers.specs.declared.status.Status.TheVariants.{DeltaLimit, Done}
 use Rattle.vital_words.specs.declared.job.SelfRun.{SelfRun}
 
 abbrev at : ℕ → Level → Transaction

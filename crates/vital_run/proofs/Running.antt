@@ -3,15 +3,15 @@ use Rattle.std.proofs.Common.{◌≡◌, ℕ, true, false, List, Option, Result,
 use Rattle.std.specs.Prelude.{IfSome}
 use Rattle.vital_base.specs.Shelves.{Files}
 use Rattle.vital_report.specs.Reporters.{PrinterState}
-use Rattle.vital_run.specs.Answer.{Answer}
-use Rattle.vital_run.specs.Loading.{too_long, follows_loading}
-use Rattle.vital_run.specs.Outcome.{PrintsAnswer, all, nothing, until_fault, until_no_memory, Stage, Runs}
-use Rattle.vital_run.specs.Refusals.{refused_words}
+use Rattle.vital_answers.specs.Answer.{Answer}
+use Rattle.vital_answers.specs.Loading.{too_long, follows_loading}
+use Rattle.vital_answers.specs.Outcome.{PrintsAnswer, all, nothing, until_fault, until_no_memory, Stage, Runs}
+use Rattle.vital_answers.specs.Refusals.{refused_words}
 use Rattle.vital_run.specs.Stages.{IsLoadedAnswer, IsJobAnswer}
-use Rattle.vital_run.specs.declared.loading.Source.{Source}
-use Rattle.vital_run.specs.declared.status.Status.{Status}
-use Rattle.vital_run.specs.declared.status.Status.TheVariants.{Limit, ReadFault, WriteFault, NoMemory}
-use Rattle.vital_run.proofs.Printing.{if_told, if_also, stage_without_memory}
+use Rattle.vital_answers.specs.declared.loading.Source.{Source}
+use Rattle.vital_answers.specs.declared.status.Status.{Status}
+use Rattle.vital_answers.specs.declared.status.Status.TheVariants.{Limit, ReadFault, WriteFault, NoMemory}
+use Rattle.vital_answers.proofs.Printing.{if_told, if_also, stage_without_memory}
 use Rattle.vital_words.specs.declared.job.Job.{Job}
 use Rattle.vital_words.specs.declared.refusal.UsageFault.{UsageFault}
 

@@ -6,11 +6,11 @@ use Rattle.vital_base.specs.Tallies.{Tally, count, no_lines}
 use Rattle.vital_report.specs.Lines.{bytes_of, said, text_of}
 use Rattle.vital_report.specs.Reporters.{PrinterState}
 use Rattle.vital_report.specs.declared.line.Line.{Line}
-use Rattle.vital_run.specs.Answer.{Answer}
-use Rattle.vital_run.specs.Outcome.{Finishes, Gives, complete, reading_failed, writing_failed, memory_failed, PrintsAnswer, is_failure}
+use Rattle.vital_answers.specs.Answer.{Answer}
+use Rattle.vital_answers.specs.Outcome.{Finishes, Gives, complete, reading_failed, writing_failed, memory_failed, PrintsAnswer, is_failure}
 use Rattle.vital_run.specs.Selves.{is_refusal, last_line, self_answer, tallied_answer, told_of_job}
-use Rattle.vital_run.specs.declared.status.Status.{Status}
-use Rattle.vital_run.specs.declared.status.Status.TheVariants as status
+use Rattle.vital_answers.specs.declared.status.Status.{Status}
+use Rattle.vital_answers.specs.declared.status.Status.TheVariants as status
 use Rattle.vital_run.proofs.Finishing.{gives}
 use Rattle.vital_words.specs.declared.job.SelfRun.{SelfRun}
 

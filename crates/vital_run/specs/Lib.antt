@@ -1,16 +1,6 @@
-pub mod Status
-pub mod Answer
-pub mod Loading
-pub mod Refusals
-pub mod Reading
 pub mod Runs
 pub mod Stimuli
-pub mod Cells
-pub mod Designs
-pub mod Trees
 pub mod Simulations
-pub mod Kept
 pub mod Selves
 pub mod Stages
-pub mod Given
-pub mod Outcome
+pub mod Aims

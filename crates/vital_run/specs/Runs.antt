@@ -5,8 +5,8 @@ use Rattle.vital_kernel.specs.Runs.{DeltaPassed, End, Ended, IsWholeRun, Run}
 use Rattle.vital_kernel.specs.Networks.{Network}
 use Rattle.vital_report.specs.Lines.{Said, bytes_of, end, refused_delta, text_of, version}
 use Rattle.vital_stim.specs.declared.stimuli.StimLine.{StimLine}
-use Rattle.vital_run.specs.Answer.{Answer}
-use Rattle.vital_run.specs.declared.status.Status.TheVariants.{DeltaLimit, Done}
+use Rattle.vital_answers.specs.Answer.{Answer}
+use Rattle.vital_answers.specs.declared.status.Status.TheVariants.{DeltaLimit, Done}
 
 -- The text of a run of which these lines are told, and then this one.
 abbrev pub run_text : List Said → Said → List ℕ

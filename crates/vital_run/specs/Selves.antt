@@ -1,13 +1,13 @@
 -- The command `self`: the job that it runs, and what of that job's answer it tells.
-use Rattle.std.specs.Prelude.{ℕ, ◌-◌, ◌==◌, Bool, true, false, List, [], ◌∷◌, codes, length, take, Option, Some, None, if◌then◌else◌}
+use Rattle.std.specs.Prelude.{ℕ, ◌-◌, ◌==◌, Bool, true, false, List, [], ◌∷◌, codes, length, take, Option, Some, None, Result, Ok, Err, if◌then◌else◌}
 use Rattle.vital_base.specs.Tallies.{Tally, count, no_lines}
 use Rattle.vital_base.specs.declared.corner.Corner.TheVariants.{Typ}
 use Rattle.vital_base.specs.declared.watch.Watch.TheVariants.{All}
 use Rattle.vital_report.specs.Lines.{Said, end, events, made_before, messages, self_head, text_of}
-use Rattle.vital_run.specs.Answer.{Answer, refused}
-use Rattle.vital_run.specs.declared.loading.Source.{Source}
-use Rattle.vital_run.specs.declared.status.Status.{Status}
-use Rattle.vital_run.specs.declared.status.Status.TheVariants.{Done, ReadFault, WriteFault, NoMemory}
+use Rattle.vital_answers.specs.Answer.{Answer, refused}
+use Rattle.vital_answers.specs.declared.loading.Source.{Source}
+use Rattle.vital_answers.specs.declared.status.Status.{Status}
+use Rattle.vital_answers.specs.declared.status.Status.TheVariants.{Done, ReadFault, WriteFault, NoMemory}
 use Rattle.vital_self.specs.SelfTexts.{self_texts}
 use Rattle.vital_words.specs.declared.job.Job.{Job}
 use Rattle.vital_words.specs.declared.job.NamedFile.{NamedFile}
@@ -16,11 +16,22 @@ use Rattle.vital_words.specs.declared.job.Task.{Task}
 use Rattle.vital_words.specs.declared.job.Task.TheVariants.{Sim, SelfRun}
 use Rattle.vital_words.specs.declared.key.FileKind.{FileKind}
 use Rattle.vital_words.specs.declared.key.FileKind.TheVariants.{Lib, Net, Stim}
+use Rattle.vital_words.specs.declared.refusal.UsageFault.{UsageFault}
 
 -- What a task draws and simulates, where it is that of `self`.
 abbrev pub drawn_by : Task → Option SelfRun'
 drawn_by (SelfRun run) = Some run
 drawn_by other = None
+
+-- The files that are asked of the shelf: those of a job, and none where `self` draws them.
+abbrev pub asked_files : Option SelfRun' → List NamedFile → List NamedFile
+asked_files (Some run) files = []
+asked_files None files = files
+
+-- The same of words; those that are refused ask for none.
+abbrev pub files_of : Result Job UsageFault → List NamedFile
+files_of (Ok job) = asked_files (drawn_by job.task) job.files
+files_of (Err fault) = []
 
 -- ---- the job that is run
 

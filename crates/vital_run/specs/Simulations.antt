@@ -1,5 +1,5 @@
 -- The answer of `sim`: the run of the design under a top with the delays of SDF files, and with stimuli.
-use Rattle.std.specs.Prelude.{◌≡◌, ℕ, List, ◌++◌, map, Some, Result, Ok, Err}
+use Rattle.std.specs.Prelude.{◌≡◌, ℕ, List, map, Some, Result, Ok, Err}
 use Rattle.vital_annotate.specs.Annotations.{Outcome, annotated}
 use Rattle.vital_annotate.specs.declared.note.Note.{Note}
 use Rattle.vital_annotate.specs.declared.note.NoteWhy.{NoteWhy}
@@ -7,7 +7,7 @@ use Rattle.vital_annotate.specs.declared.note.NoteWhy.TheVariants as why
 use Rattle.vital_netlist.specs.Designs.{Design}
 use Rattle.vital_kernel.specs.DesignNetworks.{network}
 use Rattle.vital_kernel.specs.Networks.{Network}
-use Rattle.vital_report.specs.Lines.{Said, note, text_of}
+use Rattle.vital_report.specs.Lines.{Said, note}
 use Rattle.vital_report.specs.declared.why.Limit.TheVariants.{Delay as DelayLimit}
 use Rattle.vital_report.specs.declared.why.NoteWhy.{NoteWhy as PrintedWhy}
 use Rattle.vital_report.specs.declared.why.NoteWhy.TheVariants as printed
@@ -17,11 +17,11 @@ use Rattle.vital_stim.specs.declared.fault.StimFault.{StimFault}
 use Rattle.vital_stim.specs.declared.stimuli.StimLine.{StimLine}
 use Rattle.vital_stim.specs.declared.stimuli.Stimuli.{Stimuli}
 use Rattle.vital_timing.specs.declared.delay.Delay.{Delay}
-use Rattle.vital_run.specs.Answer.{Answer}
-use Rattle.vital_run.specs.Refusals.{refused_at, spot_of}
+use Rattle.vital_answers.specs.Answer.{Answer, before}
+use Rattle.vital_answers.specs.Refusals.{refused_at, spot_of}
 use Rattle.vital_run.specs.Runs.{IsRunAnswer}
 use Rattle.vital_run.specs.Stimuli.{refused_stimuli}
-use Rattle.vital_run.specs.declared.refusal.Refusal.TheVariants as refusal
+use Rattle.vital_answers.specs.declared.refusal.Refusal.TheVariants as refusal
 use Rattle.vital_words.specs.declared.job.NamedFile.{NamedFile}
 use Rattle.vital_words.specs.declared.job.Sim.{Sim}
 
@@ -49,10 +49,6 @@ printed_note why.Negative = printed.Negative
 
 abbrev pub note_line : List NamedFile → Note → Said
 note_line files n = note (printed_note n.why) (spot_of files n.place)
-
--- Lines, and then an answer.
-abbrev pub before : List Said → Answer → Answer
-before lines answer = record { bytes = text_of lines ++ answer.bytes; status = answer.status }
 
 -- What it answers where SDF files make delays and notes: the notes come first, also before a refused stimulus; or where an entry makes a
 -- delay that is too long.

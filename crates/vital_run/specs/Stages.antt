@@ -5,19 +5,19 @@ use Rattle.std.specs.List.{slice_get}
 use Rattle.vital_base.specs.Shelves.{Files}
 use Rattle.vital_library.specs.Gathered.{gathered}
 use Rattle.vital_library.specs.declared.error.LibraryError.{LibraryError}
-use Rattle.vital_run.specs.Answer.{Answer, not_there, nothing_told}
-use Rattle.vital_run.specs.Cells.{IsCellsAnswer}
-use Rattle.vital_run.specs.Loading.{all_loaded}
-use Rattle.vital_run.specs.Reading.{AreRead}
-use Rattle.vital_run.specs.Designs.{IsUnderAnswer}
-use Rattle.vital_run.specs.Refusals.{refused_words, refused_at, IsLibraryRefusal}
+use Rattle.vital_answers.specs.Answer.{Answer, not_there, nothing_told}
+use Rattle.vital_answers.specs.Cells.{IsCellsAnswer}
+use Rattle.vital_answers.specs.Loading.{all_loaded}
+use Rattle.vital_answers.specs.Reading.{AreRead}
+use Rattle.vital_answers.specs.Designs.{IsUnderAnswer}
+use Rattle.vital_answers.specs.Refusals.{refused_words, refused_at, IsLibraryRefusal}
 use Rattle.vital_run.specs.Selves.{drawn_by, self_answer, self_job, self_sources}
 use Rattle.vital_run.specs.Simulations.{IsSimAnswer}
 use Rattle.vital_run.specs.Stimuli.{IsTextAnswer}
-use Rattle.vital_run.specs.Trees.{IsTreeAnswer}
-use Rattle.vital_run.specs.declared.loading.Source.{Source}
-use Rattle.vital_run.specs.declared.reading.ReadFiles.{ReadFiles}
-use Rattle.vital_run.specs.declared.refusal.Refusal.{Refusal}
+use Rattle.vital_answers.specs.Trees.{IsTreeAnswer}
+use Rattle.vital_answers.specs.declared.loading.Source.{Source}
+use Rattle.vital_answers.specs.declared.reading.ReadFiles.{ReadFiles}
+use Rattle.vital_answers.specs.declared.refusal.Refusal.{Refusal}
 use Rattle.vital_sdf.specs.declared.group.SdfFile.{SdfFile}
 use Rattle.vital_nodes.specs.declared.unit.Units.{Units}
 use Rattle.vital_words.specs.Jobs.{job}

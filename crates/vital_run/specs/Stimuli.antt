@@ -11,9 +11,9 @@ use Rattle.vital_stim.specs.declared.fault.StimFault.{StimFault}
 use Rattle.vital_stim.specs.declared.fault.StimWhy.{StimWhy}
 use Rattle.vital_stim.specs.declared.fault.StimWhy.TheVariants as why
 use Rattle.vital_stim.specs.declared.stimuli.Stimuli.{Stimuli}
-use Rattle.vital_run.specs.Answer.{Answer, refused}
+use Rattle.vital_answers.specs.Answer.{Answer, refused}
 use Rattle.vital_run.specs.Runs.{run_answer}
-use Rattle.vital_run.specs.declared.status.Status.TheVariants.{Stimulus}
+use Rattle.vital_answers.specs.declared.status.Status.TheVariants.{Stimulus}
 
 -- Why a stimulus file is refused, as it is printed.
 abbrev pub printed_why : StimWhy → StimulusWhy

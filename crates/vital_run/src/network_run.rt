@@ -3,13 +3,12 @@
 ghost use Rattle.std.specs.Prelude.{◌≡◌, ◌^◌, ◌≤◌, All, false, map};
 ghost use Rattle.std.specs.List.Sorted.{IsNonDecreasing};
 ghost use Rattle.vital_kernel.specs.Kernels.{IsDriven};
-ghost use Rattle.vital_run.specs.Outcome.{Stage};
+ghost use Rattle.vital_answers.specs.Outcome.{Stage};
 ghost use Rattle.vital_run.specs.Runs.{IsRunAnswer};
 
-use crate::lines::end_with;
-use crate::status::Status;
 use std::alloc::{AllocError, Global};
 use vital_agenda::QueueAgenda;
+use vital_answers::{Status, end_with};
 use vital_base::{Sink, Time, WriteFault};
 use vital_kernel::{Kernel, Network, RunError, one_run};
 use vital_report::{Line, Printer};

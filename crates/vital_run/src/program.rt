@@ -2,19 +2,19 @@
 
 ghost use Rattle.std.specs.Prelude.{◌≡◌, ◌≢◌, ◌≤◌, false, length, IfSome};
 ghost use Rattle.vital_base.specs.Faults.{Rose};
-ghost use Rattle.vital_run.specs.Answer.{Answer};
-ghost use Rattle.vital_run.specs.Loading.{OpensFiles, asked_files, files_of};
-ghost use Rattle.vital_run.specs.Outcome.{Finishes, Gives, Runs};
+ghost use Rattle.vital_answers.specs.Answer.{Answer};
+ghost use Rattle.vital_answers.specs.Loading.{OpensFiles};
+ghost use Rattle.vital_run.specs.Selves.{asked_files, files_of};
+ghost use Rattle.vital_answers.specs.Outcome.{Finishes, Gives, Runs};
 ghost use Rattle.vital_run.specs.Selves.{drawn_by};
 ghost use Rattle.vital_run.specs.Stages.{IsAnswer, IsAskedAnswer, IsJobAnswer, IsOnlyAnswer};
 ghost use Rattle.vital_words.specs.Given.{IsBounded, IsBoundedTask, NamesIn};
 ghost use Rattle.vital_words.specs.Jobs.{job};
 
-use crate::refusal::refuse_words;
 use crate::self_run::run_self;
 use crate::stages::run_job;
-use crate::status::Status;
 use std::alloc::Global;
+use vital_answers::{Status, refuse_words};
 use vital_base::{Shelf, Sink, Word, WriteFault};
 use vital_instances::one_judge;
 use vital_kernel::{one_run, port_run};

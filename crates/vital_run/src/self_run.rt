@@ -4,18 +4,16 @@ ghost use Rattle.std.specs.Prelude.{◌≡◌, ◌≢◌, ◌≤◌, true, false
 ghost use Rattle.vital_base.specs.Faults.{Rose};
 ghost use Rattle.vital_report.specs.Lines.{said, text_of};
 ghost use Rattle.vital_report.specs.Reporters.{Prints};
-ghost use Rattle.vital_run.specs.Answer.{Answer};
-ghost use Rattle.vital_run.specs.Outcome.{Gives, Stage};
+ghost use Rattle.vital_answers.specs.Answer.{Answer};
+ghost use Rattle.vital_answers.specs.Outcome.{Gives, Stage};
 ghost use Rattle.vital_run.specs.Selves.{is_refusal, last_line, last_text, named, self_job, self_sources, tallied_answer};
 ghost use Rattle.vital_run.specs.Stages.{IsDrawnAnswer, IsLoadedAnswer, IsSelfAnswer};
 ghost use Rattle.vital_words.specs.Given.{IsBounded, NamesIn};
 
-use crate::lines::end_with;
-use crate::loading::Source;
 use crate::program::finish;
 use crate::stages::run_sources;
-use crate::status::Status;
 use std::alloc::{AllocError, Global};
+use vital_answers::{Source, Status, end_with};
 use vital_base::{Corner, List, MemSink, Name, Sink, Watch, WriteFault};
 use vital_report::{Line, Printer, Reporter, TallySink};
 use vital_self::{Texts, texts_of};

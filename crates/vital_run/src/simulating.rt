@@ -6,18 +6,17 @@ ghost use Rattle.std.specs.Prelude.{◌≡◌, ◌^◌, ◌≤◌, All, IfOk, fa
 ghost use Rattle.vital_annotate.specs.Instances.{cell_instances};
 ghost use Rattle.vital_report.specs.Lines.{text_of};
 ghost use Rattle.vital_report.specs.Reporters.{Prints};
-ghost use Rattle.vital_run.specs.Outcome.{Stage};
+ghost use Rattle.vital_answers.specs.Outcome.{Stage};
 ghost use Rattle.vital_run.specs.Runs.{IsRunAnswer};
 ghost use Rattle.vital_run.specs.Simulations.{IsAnnotatedAnswer, IsSimAnswer, IsTimedAnswer, note_line, printed_note, simulated};
 ghost use Rattle.vital_stim.specs.Stimuli.{Fits};
 ghost use Rattle.vital_typed_cells.specs.Fits.{FitsCell};
 
 use crate::network_run::run_network;
-use crate::refusal::{Refusal, position_of, refuse_files};
-use crate::status::Status;
 use crate::stimuli::refuse_stimuli;
 use std::alloc::{AllocError, Global};
 use vital_annotate::{AnnotateError, Annotated, Note, NoteWhy, annotate};
+use vital_answers::{Refusal, Status, position_of, refuse_files};
 use vital_base::{List, Name, Sink, WriteFault};
 use vital_kernel::Network;
 use vital_netlist::Design;

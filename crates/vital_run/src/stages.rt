@@ -3,21 +3,19 @@
 ghost use Rattle.std.specs.Prelude.{◌≡◌, ◌<◌, ◌≤◌, false, length, All, Ok};
 ghost use Rattle.vital_as_read.specs.Libraries.{IsFromText};
 ghost use Rattle.vital_library.specs.Gathered.{gathered};
-ghost use Rattle.vital_run.specs.Loading.{OpensFiles, all_loaded};
-ghost use Rattle.vital_run.specs.Outcome.{Runs, Stage};
+ghost use Rattle.vital_answers.specs.Loading.{OpensFiles, all_loaded};
+ghost use Rattle.vital_answers.specs.Outcome.{Runs, Stage};
 ghost use Rattle.vital_run.specs.Stages.{IsLibraryAnswer, IsLoadedAnswer, IsTaskAnswer};
 ghost use Rattle.vital_words.specs.Given.{IsBounded, IsBoundedTask, NamesIn};
 
-use crate::cells::check_cells;
 use crate::elaborating::{Aim, Asked, elaborate_top};
-use crate::lines::refuse_long;
-use crate::loading::{NotLoaded, Source, load_files};
-use crate::reading::{ReadFiles, Unread, read_files};
-use crate::refusal::{library_refusal, refuse_files};
 use crate::simulating::Simulated;
-use crate::status::Status;
 use crate::stimuli::play_text;
 use std::alloc::Global;
+use vital_answers::{
+    NotLoaded, ReadFiles, Source, Status, Unread, check_cells, library_refusal, load_files,
+    read_files, refuse_files, refuse_long,
+};
 use vital_base::{List, Shelf, Sink};
 use vital_library::{Library, gather};
 use vital_report::Printer;

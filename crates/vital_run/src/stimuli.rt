@@ -3,13 +3,12 @@
 ghost use Rattle.std.specs.Prelude.{◌≡◌, ◌^◌, ◌≤◌, false, length, map, All};
 ghost use Rattle.std.specs.List.Sorted.{IsNonDecreasing};
 ghost use Rattle.vital_stim.specs.Stimuli.{Fits};
-ghost use Rattle.vital_run.specs.Outcome.{Stage};
+ghost use Rattle.vital_answers.specs.Outcome.{Stage};
 ghost use Rattle.vital_run.specs.Stimuli.{IsStimuliAnswer, IsTextAnswer, printed_why, refused_stimuli};
 
-use crate::lines::end_with;
 use crate::network_run::run_network;
-use crate::status::Status;
 use std::alloc::Global;
+use vital_answers::{Status, end_with};
 use vital_base::{Name, Sink, Time};
 use vital_kernel::Network;
 use vital_report::{Line, Printer, StimulusWhy};

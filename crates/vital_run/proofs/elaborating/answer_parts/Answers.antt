@@ -1,7 +1,7 @@
 use Rattle.vital_netlist.specs.Elaboration.{designed}
-use Rattle.vital_run.specs.Given.{IsAimAnswer}
+use Rattle.vital_run.specs.Aims.{IsAimAnswer}
 use Rattle.vital_run.proofs.Elaborated.{answer_of_design, answer_of_error}
-use Rattle.vital_run.proofs.Printing.{stage_for}
+use Rattle.vital_answers.proofs.Printing.{stage_for}
 use Rattle.vital_run.proofs.elaborating.answer_parts.Goals as goal
 
 pub returns-in-Ok : goal.returns-in-Ok

@@ -1,8 +1,8 @@
 use Rattle.vital_report.specs.Lines.{text_of}
-use Rattle.vital_run.specs.Answer.{Answer}
-use Rattle.vital_run.specs.Trees.{tree_lines}
-use Rattle.vital_run.specs.declared.status.Status.TheVariants.{Done}
-use Rattle.vital_run.proofs.Printing.{stage_breaks, stage_prints, stage_stops}
+use Rattle.vital_answers.specs.Answer.{Answer}
+use Rattle.vital_answers.specs.Trees.{tree_lines}
+use Rattle.vital_answers.specs.declared.status.Status.TheVariants.{Done}
+use Rattle.vital_answers.proofs.Printing.{stage_breaks, stage_prints, stage_stops}
 use Rattle.vital_run.proofs.elaborating.answer_tree.Goals as goal
 
 pub returns-in-Ok : goal.returns-in-Ok

@@ -1,6 +1,6 @@
-use Rattle.vital_run.specs.Given.{IsAimAnswer}
+use Rattle.vital_run.specs.Aims.{IsAimAnswer}
 use Rattle.vital_run.proofs.Elaborated.{answer_of_fault, answer_of_instances, instances_entered}
-use Rattle.vital_run.proofs.Printing.{stage_for, stage_without_memory}
+use Rattle.vital_answers.proofs.Printing.{stage_for, stage_without_memory}
 use Rattle.vital_run.proofs.elaborating.answer_under.Goals as goal
 
 pub answer_entered-requires-clause-entered : goal.answer_entered-requires-clause-entered

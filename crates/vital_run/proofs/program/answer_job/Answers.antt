@@ -1,6 +1,6 @@
 use Rattle.std.proofs.Common.{refl}
 use Rattle.vital_run.specs.Stages.{IsSelfAnswer}
-use Rattle.vital_run.proofs.Printing.{if_told}
+use Rattle.vital_answers.proofs.Printing.{if_told}
 use Rattle.vital_run.proofs.Running.{stage_runs}
 use Rattle.vital_run.proofs.program.answer_job.Goals as goal
 

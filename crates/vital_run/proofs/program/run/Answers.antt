@@ -3,7 +3,7 @@ use Rattle.std.proofs.lemmas.Grind.{common_steps}
 use Rattle.vital_report.specs.Reporters.{PrinterState, ReporterState}
 use Rattle.vital_run.proofs.Finishing.{answered, same_lender}
 use Rattle.vital_run.proofs.OneAnswer.{nothing_given}
-use Rattle.vital_run.proofs.Printing.{if_told}
+use Rattle.vital_answers.proofs.Printing.{if_told}
 use Rattle.vital_run.proofs.program.run.Goals as goal
 
 pub returns-in_default-clause-answered : goal.returns-in_default-clause-answered

@@ -1,6 +1,6 @@
 use Rattle.std.proofs.Common.{◌≡◌, refl}
-use Rattle.vital_run.specs.Refusals.{refused_words}
-use Rattle.vital_run.proofs.Printing.{if_told}
+use Rattle.vital_answers.specs.Refusals.{refused_words}
+use Rattle.vital_answers.proofs.Printing.{if_told}
 use Rattle.vital_run.proofs.Running.{stage_runs, words_answer}
 use Rattle.vital_run.proofs.program.run_words.Goals as goal
 use Rattle.vital_words.specs.Jobs.{job}

@@ -1,6 +1,6 @@
 use Rattle.std.proofs.Common.{List, ℕ, ◌+◌, ◌++◌, drop, map, subst}
 use Rattle.vital_report.specs.Lines.{bytes_of, said, text_of}
-use Rattle.vital_run.proofs.Parts.{Part, part_goes_on, part_stops, prints_failed}
+use Rattle.vital_answers.proofs.Parts.{Part, part_goes_on, part_stops, prints_failed}
 use Rattle.vital_run.proofs.Selves.{next_line}
 use Rattle.vital_run.proofs.self_run.print_lines.Goals as goal
 

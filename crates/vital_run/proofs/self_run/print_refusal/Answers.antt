@@ -1,9 +1,9 @@
 use Rattle.std.proofs.Common.{◌≡◌, ◌∙◌, ℕ, List, [], sym, ap}
 use Rattle.vital_base.specs.MemSinks.{MemSinkState}
 use Rattle.vital_report.specs.Lines.{made_before}
-use Rattle.vital_run.specs.Answer.{refused}
+use Rattle.vital_answers.specs.Answer.{refused}
 use Rattle.vital_run.specs.Selves.{last_line, last_text}
-use Rattle.vital_run.proofs.Printing.{stage_for, stage_without_memory}
+use Rattle.vital_answers.proofs.Printing.{stage_for, stage_without_memory}
 use Rattle.vital_run.proofs.Selves.{memory_holds}
 use Rattle.vital_run.proofs.self_run.print_refusal.Goals as goal
 

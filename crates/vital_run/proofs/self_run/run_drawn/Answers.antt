@@ -1,5 +1,5 @@
 use Rattle.std.proofs.Common.{◌∙◌}
-use Rattle.vital_run.proofs.Printing.{stage_for}
+use Rattle.vital_answers.proofs.Printing.{stage_for}
 use Rattle.vital_run.proofs.Selves.{done_told, is_refused, refusal_told}
 use Rattle.vital_run.proofs.self_run.run_drawn.Goals as goal
 

@@ -1,4 +1,4 @@
-use Rattle.vital_run.proofs.Printing.{stage_without_memory}
+use Rattle.vital_answers.proofs.Printing.{stage_without_memory}
 use Rattle.vital_run.proofs.self_run.run_self.Goals as goal
 
 pub returns-in_default-self_sources : goal.returns-in_default-self_sources

@@ -4,7 +4,7 @@ use Rattle.vital_annotate.specs.declared.note.Note.{Note}
 use Rattle.vital_report.specs.Lines.{Said, bytes_of, note, text_of}
 use Rattle.vital_report.specs.Reporters.{Printed, Stopped}
 use Rattle.vital_run.specs.Simulations.{note_line}
-use Rattle.vital_run.proofs.Parts.{Part, part_goes_on, part_stops, prints_failed}
+use Rattle.vital_answers.proofs.Parts.{Part, part_goes_on, part_stops, prints_failed}
 use Rattle.vital_run.proofs.simulating.print_notes.Goals as goal
 
 pub returns-in_err-print : goal.returns-in_err-print

@@ -1,7 +1,7 @@
 use Rattle.std.proofs.Common.{◌≡◌, Err, sym, ap, subst, ◌∙◌}
 use Rattle.vital_annotate.specs.Annotations.{Outcome}
 use Rattle.vital_annotate.specs.declared.annotate_error.AnnotateError.{AnnotateError}
-use Rattle.vital_run.specs.Outcome.{Stage}
+use Rattle.vital_answers.specs.Outcome.{Stage}
 use Rattle.vital_run.specs.Simulations.{IsAnnotatedAnswer}
 use Rattle.vital_run.proofs.simulating.simulate.Goals as goal
 

@@ -3,9 +3,9 @@ use Rattle.vital_report.specs.Lines.{Said, text_of}
 use Rattle.vital_report.specs.Reporters.{Printed, Stopped}
 use Rattle.vital_annotate.specs.declared.note.Note.{Note}
 use Rattle.vital_timing.specs.declared.delay.Delay.{Delay}
-use Rattle.vital_run.specs.Outcome.{Stage}
+use Rattle.vital_answers.specs.Outcome.{Stage}
 use Rattle.vital_run.specs.Simulations.{IsTimedAnswer, note_line}
-use Rattle.vital_run.proofs.Printing.{stage_after, stage_stops_before}
+use Rattle.vital_answers.proofs.Printing.{stage_after, stage_stops_before}
 use Rattle.vital_run.proofs.simulating.simulate_annotated.Goals as goal
 
 pub returns-in-Ok : goal.returns-in-Ok

@@ -7,12 +7,12 @@ use Rattle.vital_kernel.specs.Networks.{Network}
 use Rattle.vital_stim.specs.Stimuli.{Fits}
 use Rattle.vital_stim.specs.declared.stimuli.StimLine.{StimLine}
 use Rattle.vital_timing.specs.declared.delay.Delay.{Delay}
-use Rattle.vital_run.specs.Outcome.{Stage}
+use Rattle.vital_answers.specs.Outcome.{Stage}
 use Rattle.vital_run.specs.Runs.{IsRunAnswer}
 use Rattle.vital_run.specs.Simulations.{simulated}
 use Rattle.vital_run.proofs.Delays.{delays_fit}
 use Rattle.vital_run.proofs.Driven.{design_is_driven}
-use Rattle.vital_run.proofs.Printing.{stage_without_memory}
+use Rattle.vital_answers.proofs.Printing.{stage_without_memory}
 use Rattle.vital_run.proofs.simulating.simulate_stimuli.Goals as goal
 
 pub of_design-requires-clause-fit : goal.of_design-requires-clause-fit

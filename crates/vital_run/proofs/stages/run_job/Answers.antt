@@ -1,7 +1,7 @@
 use Rattle.std.proofs.Common.{◌≡◌, Ok}
-use Rattle.vital_run.specs.Loading.{all_loaded, too_long}
+use Rattle.vital_answers.specs.Loading.{all_loaded, too_long}
 use Rattle.vital_run.specs.Stages.{IsLoadedAnswer}
-use Rattle.vital_run.proofs.Printing.{if_also}
+use Rattle.vital_answers.proofs.Printing.{if_also}
 use Rattle.vital_run.proofs.Running.{stage_runs, runs_without_memory, loaded_answer, long_answer, long_is_not_loaded}
 use Rattle.vital_run.proofs.stages.run_job.Goals as goal
 

@@ -1,9 +1,9 @@
 use Rattle.std.proofs.Common.{◌≡◌}
 use Rattle.vital_library.specs.Gathered.{gathered}
-use Rattle.vital_run.specs.Refusals.{refused_at}
+use Rattle.vital_answers.specs.Refusals.{refused_at}
 use Rattle.vital_run.specs.Stages.{IsLibraryAnswer}
 use Rattle.vital_run.proofs.LibraryRefused.{library_refused}
-use Rattle.vital_run.proofs.Printing.{stage_for, stage_without_memory}
+use Rattle.vital_answers.proofs.Printing.{stage_for, stage_without_memory}
 use Rattle.vital_run.proofs.stages.run_read.Goals as goal
 
 pub run_task-requires-clause-read : goal.run_task-requires-clause-read

@@ -1,7 +1,7 @@
 use Rattle.std.proofs.Common.{◌<◌, length, refl, arith}
 use Rattle.std.proofs.lemmas.Option.{slice_get_read}
 use Rattle.vital_run.proofs.Elaborated.{answer_of_sim}
-use Rattle.vital_run.proofs.Printing.{stage_for}
+use Rattle.vital_answers.proofs.Printing.{stage_for}
 use Rattle.vital_run.proofs.stages.run_sim.Goals as goal
 
 pub returns : goal.returns

@@ -1,4 +1,4 @@
-use Rattle.vital_run.proofs.Printing.{stage_for, stage_without_memory}
+use Rattle.vital_answers.proofs.Printing.{stage_for, stage_without_memory}
 use Rattle.vital_run.proofs.Refusing.{reading_refused}
 use Rattle.vital_run.proofs.stages.run_sources.Goals as goal
 

@@ -1,6 +1,6 @@
-use Rattle.vital_run.specs.Answer.{nothing_told}
-use Rattle.vital_run.proofs.Printing.{stage_prints}
-use Rattle.vital_run.proofs.Texts.{printed_none}
+use Rattle.vital_answers.specs.Answer.{nothing_told}
+use Rattle.vital_answers.proofs.Printing.{stage_prints}
+use Rattle.vital_answers.proofs.Texts.{printed_none}
 use Rattle.vital_run.proofs.stages.run_task.Goals as goal
 
 pub returns-in-Check : goal.returns-in-Check

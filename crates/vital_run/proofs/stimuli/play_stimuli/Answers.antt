@@ -3,7 +3,7 @@ use Rattle.vital_run.specs.Runs.{IsRunAnswer}
 use Rattle.vital_run.specs.Stimuli.{IsStimuliAnswer}
 use Rattle.vital_run.proofs.Driven.{ports_are_driven}
 use Rattle.vital_run.proofs.OneRun.{told_of_stimuli}
-use Rattle.vital_run.proofs.Printing.{stage_for}
+use Rattle.vital_answers.proofs.Printing.{stage_for}
 use Rattle.vital_run.proofs.stimuli.play_stimuli.Goals as goal
 
 pub run_network-requires-clause-driven : goal.run_network-requires-clause-driven

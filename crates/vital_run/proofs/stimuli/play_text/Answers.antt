@@ -1,7 +1,7 @@
 use Rattle.std.proofs.Common.{Result, sym, subst}
 use Rattle.vital_stim.specs.declared.fault.StimFault.{StimFault}
 use Rattle.vital_stim.specs.declared.stimuli.Stimuli.{Stimuli}
-use Rattle.vital_run.specs.Outcome.{Stage}
+use Rattle.vital_answers.specs.Outcome.{Stage}
 use Rattle.vital_run.specs.Stimuli.{IsReadStimuliAnswer}
 use Rattle.vital_run.proofs.stimuli.play_text.Goals as goal
 

@@ -1,0 +1,11 @@
+pub mod Texts
+pub mod Printing
+pub mod Loaded
+pub mod FilesRead
+pub mod Parts
+pub mod Judged
+pub mod ListedCells
+pub mod CellLines
+pub mod Checked
+pub mod TreeLines
+pub mod RefusalPlaces

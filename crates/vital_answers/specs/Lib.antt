@@ -1,0 +1,11 @@
+pub mod Status
+pub mod Answer
+pub mod Loading
+pub mod Refusals
+pub mod Reading
+pub mod Cells
+pub mod Designs
+pub mod Trees
+pub mod Kept
+pub mod Given
+pub mod Outcome

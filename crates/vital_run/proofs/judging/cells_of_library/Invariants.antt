@@ -1,9 +1,0 @@
-use Rattle.std.proofs.Common.{◌≡◌, map, take}
-use Rattle.std.specs.List.{flat_map}
-use Rattle.vital_library.specs.Units.{entities}
-use Rattle.vital_run.specs.Cells.{cells_of}
-use Rattle.vital_run.specs.Kept.{lent}
-use Rattle.vital_run.proofs.judging.cells_of_library.Given as goal
-
-abbrev pub invariant-loop-entity : goal.invariant-loop-entity
-invariant-loop-entity l = map (lent l.library) l.found.items ≡ flat_map (cells_of l.library) (take l.entity (entities l.library))
