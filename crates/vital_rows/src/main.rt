@@ -1,11 +1,12 @@
-//! Goes over the worked rows of the whole program, and of the parts below it that read files, words and names. The first word of a row is a view of
-//! such a part; any other words are those of a run of the program over devices in memory.
+//! Goes over the worked rows of the whole program. The words of a row are those of a run over devices in memory; behind `opened` they are those of a
+//! run whose opened files are shown, and behind `job` those that are read into a job.
 #![tactic(auto)]
 
+mod noted_shelf;
 mod program;
 mod views;
 
-use self::program::{answer_of_run, words_of};
+use self::program::{answer_of_run, opened_by_run, words_of};
 use self::views::view;
 use std::alloc::{AllocError, Global};
 use std::fs;
@@ -23,8 +24,14 @@ impl Answers for WorkedRows {
         files: &[GivenFile],
         row: &Row,
     ) -> Result<Answer, AllocError> {
+        if let [first, others @ ..] = words {
+            if first.as_str() == "opened" {
+                let words = words_of(alloc, others, files)?;
+                return opened_by_run(alloc, &words, files, row);
+            }
+        }
         let words = words_of(alloc, words, files)?;
-        match view(alloc, words.as_slice(), files)? {
+        match view(alloc, words.as_slice())? {
             Some(text) => Ok(Answer {
                 bytes: text.into_bytes(),
                 status: 0,

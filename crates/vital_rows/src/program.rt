@@ -1,5 +1,6 @@
 //! A run of the program over devices in memory.
 
+use super::noted_shelf::NotedShelf;
 use std::alloc::{AllocError, Global};
 use vital_base::{Bytes, List, MemFile, MemShelf, MemSink, Name, Word};
 use vital_row_files::{Answer, Device, GivenFile, Row};
@@ -62,6 +63,19 @@ fn fails_of(alloc: Global, device: &Option<Device>) -> Result<List<u32>, AllocEr
     }
 }
 
+/// The shelf of a row: its files, in memory.
+fn shelf_of(alloc: Global, files: &[GivenFile], row: &Row) -> Result<MemShelf, AllocError> {
+    let files = files_of(alloc, files)?;
+    let piece = piece_of(&row.shelf).max(1);
+    Ok(MemShelf::new(files, piece, fails_of(alloc, &row.shelf)?))
+}
+
+/// The sink of a row, in memory.
+fn sink_of(alloc: Global, row: &Row) -> Result<MemSink, AllocError> {
+    let fails = fails_of(alloc, &row.sink)?;
+    Ok(MemSink::new(alloc, piece_of(&row.sink), fails))
+}
+
 /// What the program writes, and its status, where these are its words and its files.
 pub fn answer_of_run(
     alloc: Global,
@@ -69,13 +83,36 @@ pub fn answer_of_run(
     files: &[GivenFile],
     row: &Row,
 ) -> Result<Answer, AllocError> {
-    let files = files_of(alloc, files)?;
-    let piece = piece_of(&row.shelf).max(1);
-    let mut shelf = MemShelf::new(files, piece, fails_of(alloc, &row.shelf)?);
-    let mut sink = MemSink::new(alloc, piece_of(&row.sink), fails_of(alloc, &row.sink)?);
+    let mut shelf = shelf_of(alloc, files, row)?;
+    let mut sink = sink_of(alloc, row)?;
     let status = run(alloc, words, &mut shelf, &mut sink);
     Ok(Answer {
         bytes: Vec::from_slice(alloc, sink.bytes())?,
+        status: status.number(),
+    })
+}
+
+/// A line for each name that the program opens, or tries to, in order, and its status.
+pub fn opened_by_run(
+    alloc: Global,
+    words: &Vec<Word>,
+    files: &[GivenFile],
+    row: &Row,
+) -> Result<Answer, AllocError> {
+    let mut shelf = NotedShelf {
+        shelf: shelf_of(alloc, files, row)?,
+        alloc,
+        names: Vec::new(alloc),
+    };
+    let mut sink = sink_of(alloc, row)?;
+    let status = run(alloc, words, &mut shelf, &mut sink);
+    let mut bytes = Vec::new(alloc);
+    for name in shelf.names.as_slice() {
+        bytes.extend_from_slice(name.as_slice())?;
+        bytes.push(b'\n')?;
+    }
+    Ok(Answer {
+        bytes,
         status: status.number(),
     })
 }

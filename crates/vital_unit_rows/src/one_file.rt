@@ -8,7 +8,7 @@ use super::units::put_units;
 use super::upward::put_last_places;
 use super::words::Lines;
 use std::alloc::{AllocError, Global};
-use vital_base::{Place, Word, read_number};
+use vital_base::{Place, read_number};
 use vital_lex::TextFault;
 use vital_row_files::GivenFile;
 use vital_vhdl::{Role, UnitError, Units, vhdl_rules};
@@ -30,22 +30,22 @@ pub enum FileView {
 
 impl FileView {
     /// The view that a word names.
-    pub fn named(word: &[u8]) -> Option<FileView> {
+    pub fn named(word: &str) -> Option<FileView> {
         match word {
-            b"units" => Some(FileView::Units),
-            b"entity" => Some(FileView::Entity),
-            b"upward" => Some(FileView::Upward),
-            b"level0" => Some(FileView::Level0),
-            b"split" => Some(FileView::Split),
+            "units" => Some(FileView::Units),
+            "entity" => Some(FileView::Entity),
+            "upward" => Some(FileView::Upward),
+            "level0" => Some(FileView::Level0),
+            "split" => Some(FileView::Split),
             _ => None,
         }
     }
 }
 
 /// How many tokens a file may have: as many as the first word says.
-fn room_of(words: &[Word]) -> u32 {
+fn room_of(words: &[String]) -> u32 {
     match words {
-        [room, ..] => read_number(room.as_slice())
+        [room, ..] => read_number(room.as_bytes())
             .and_then(|room| u32::try_from(room).ok())
             .unwrap_or(ROOM),
         [] => ROOM,
@@ -56,7 +56,7 @@ fn room_of(words: &[Word]) -> u32 {
 pub fn file_lines(
     alloc: Global,
     view: FileView,
-    words: &[Word],
+    words: &[String],
     files: &[GivenFile],
 ) -> Result<String, AllocError> {
     let mut out = String::new(alloc);

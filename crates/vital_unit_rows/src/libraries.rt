@@ -7,7 +7,7 @@ ghost use Rattle.vital_library.specs.Units.{entities};
 use super::reading::{ROOM, read};
 use super::words::{Lines, put_bytes, put_named, role_word};
 use std::alloc::{AllocError, Global};
-use vital_base::{List, Place, Word};
+use vital_base::{List, Place};
 use vital_library::{Library, LibraryError, gather};
 use vital_ll::Rules;
 use vital_row_files::GivenFile;
@@ -68,7 +68,7 @@ fn put_library(
     alloc: Global,
     out: Lines<'_>,
     library: &Library,
-    names: &[Word],
+    names: &[String],
 ) -> Result<(), AllocError> {
     write!(out, "files {}\n", library.files().len())?;
     for entity in 0..library.entity_count() {
@@ -76,7 +76,7 @@ fn put_library(
     }
     put_constants(alloc, out, library)?;
     for name in names {
-        put_meaning(out, library, name.as_slice())?;
+        put_meaning(out, library, name.as_bytes())?;
     }
     Ok(())
 }
@@ -84,7 +84,7 @@ fn put_library(
 /// A line for each entity of a library of files, for each constant of its packages, and for each word: what it names.
 pub fn library_lines(
     alloc: Global,
-    words: &[Word],
+    words: &[String],
     files: &[GivenFile],
 ) -> Result<String, AllocError> {
     let mut out = String::new(alloc);
