@@ -105,3 +105,8 @@ marked (Ok x) mark old new is none after =
     ap (λ (k : Simulation). let it : Simulation = record k { is_given_up = mark } in it) after
     ∙ ap (λ (b : Bool). let it : Simulation = record (after_next old) { is_given_up = b } in it) (is ∙ sym none)
 marked (Err e) mark old new is none after = tt
+
+-- Where nothing failed, it is as it was.
+pub unmarked : {E : Type 0} (result : Result Unit E) (mark : Bool) (k : Simulation) → mark ≡ is_err result → k.is_given_up ≡ false → OnOk result ((let it : Simulation = record k { is_given_up = mark } in it) ≡ k)
+unmarked (Ok x) mark k is none = ap (λ (b : Bool). let it : Simulation = record k { is_given_up = b } in it) (is ∙ sym none)
+unmarked (Err e) mark k is none = tt

@@ -1,5 +1,5 @@
 -- A run that is made cycle by cycle.
-use Rattle.std.proofs.Common.{◌≡◌, ◌∙◌, ℕ, ◌+◌, ◌-◌, ◌*◌, ◌<◌, ◌≤◌, Bool, true, false, List, [], ◌++◌, Option, Some, Result, Ok, Err, refl, ap, sym, subst, append_assoc, arith}
+use Rattle.std.proofs.Common.{◌≡◌, ◌∙◌, ℕ, ◌+◌, ◌-◌, ◌*◌, ◌<◌, ◌≤◌, Bool, true, false, List, [], ◌++◌, take, Option, Some, Result, Ok, Err, refl, ap, sym, subst, append_assoc, arith}
 use Rattle.std.specs.List.{flat_map}
 use Rattle.std.specs.Result.{IsErrAnd}
 use Rattle.std.proofs.lemmas.Bool.{le-leb, lt-leb}
@@ -21,7 +21,7 @@ use Rattle.vital_kernel.proofs.SomeRun.{fewer_left}
 use Rattle.vital_kernel.proofs.Texts.{Left, left_all, left_breaks_in, left_less, left_none, left_stops, printed_then, stopped_then, stopped_within}
 use Rattle.vital_kernel.specs.Networks.{Network}
 use Rattle.vital_report.specs.Lines.{bytes_of, text_of}
-use Rattle.vital_report.specs.Reporters.{Printed, PrinterState, PrintsPart}
+use Rattle.vital_report.specs.Reporters.{Printed, PrinterState, PrintsPart, Stopped}
 use Rattle.vital_report.specs.declared.print_error.PrintError.{PrintError}
 use Rattle.vital_report.specs.declared.print_error.PrintError.TheVariants as print
 use Rattle.vital_stim.specs.declared.stimuli.StimLine.{StimLine}
@@ -264,6 +264,34 @@ begin_failed result e until limit old new before after going given_up failed w =
     none : (e : PrintError) (r : Run) → ComesTo (Err (run_error e)) old new r
     none print.WriteFault r = tt
     none print.NoMemory r = tt
+
+-- what was held could not be written
+pub flush_failed : (result : Result Unit RunError) (until limit : ℕ) (old new : Simulation) (before after : PrinterState) → IsErrAnd result (λ x. x ≡ run.WriteFault) → new.is_given_up ≡ true → Stopped [] before after
+    → GoesOn result until limit old new before after
+flush_failed result until limit old new before after failed given_up w =
+    let p = err_from_is_err_and result failed in
+    let is : result ≡ Err run.WriteFault = p.1 ∙ ap (λ (x : RunError). Err x) p.2 in
+    subst (λ (x : Result Unit RunError). GoesOn x until limit old new before after) (sym is) (record {
+      prints = λ r run. stopped_within [] _ before after w;
+      comes_to = λ r run. tt;
+      given_up = given_up;
+    })
+
+-- a run goes on behind what was held
+prints_behind : (result : Result Unit RunError) (text : List ℕ) (x y z : PrinterState) → Printed [] x y → PrintsRun result text y z → PrintsRun result text x z
+prints_behind (Ok ok) text x y z one two = printed_then [] text x y z one two
+prints_behind (Err (run.DeltaLimit time)) text x y z one two = printed_then [] text x y z one two
+prints_behind (Err run.WriteFault) text x y z one two = stopped_then [] text x y z one two
+prints_behind (Err run.NoMemory) text x y z one two = (two.0, printed_then [] (take two.0 text) x y z one two.1)
+
+pub goes_behind : (result : Result Unit RunError) (until limit : ℕ) (old new : Simulation) (before between after : PrinterState) → Printed [] before between → GoesOn result until limit old new between after
+    → GoesOn result until limit old new before after
+goes_behind result until limit old new before between after one goes =
+    record {
+      prints = λ r run. prints_behind result _ before between after one (goes.prints r run);
+      comes_to = goes.comes_to;
+      given_up = goes.given_up;
+    }
 
 -- a fault in a cycle
 pub cycle_failed : (result : Result Unit RunError) (e : PrintError) (n : Network) (until limit : ℕ) (whole : Run) (start : PrinterState) (here : List Happening) (next : State) (now after : PrinterState)

@@ -84,6 +84,12 @@ flushed text x y z one two = rw (append-nil text) at (printed_then text [] x y z
 pub flush_failed : (text : List ℕ) (x y z : PrinterState) → Printed text x y → Stopped [] y z → Stopped text x z
 flush_failed text x y z one two = rw (append-nil text) at (stopped_then text [] x y z one two)
 
+-- a part of a run is printed behind what was held
+pub part_behind : {T : Type 0} (r : Result T PrintError) (text : List ℕ) (x y z : PrinterState) → Printed [] x y → PrintsPart r text y z → PrintsPart r text x z
+part_behind (Ok ok) text x y z one two = printed_then [] text x y z one two
+part_behind (Err error.WriteFault) text x y z one two = stopped_then [] text x y z one two
+part_behind (Err error.NoMemory) text x y z one two = (two.0, printed_then [] (take two.0 text) x y z one two.1)
+
 -- ---- a text that is printed piece by piece
 
 -- a front of a whole text was printed, and this rest of it is left

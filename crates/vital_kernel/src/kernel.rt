@@ -1,6 +1,6 @@
 //! A simulation of a network.
 
-ghost use Rattle.std.specs.Prelude.{◌≡◌, ◌-◌, ◌^◌, ◌<◌, ◌≤◌, [], All, IfOk, OnOk, Some, false, is_err, map, true};
+ghost use Rattle.std.specs.Prelude.{◌≡◌, ◌-◌, ◌^◌, ◌<◌, ◌≤◌, [], All, Err, IfOk, IsErr, OnOk, Some, false, is_err, map, true};
 ghost use Rattle.std.specs.List.Sorted.{IsNonDecreasing};
 ghost use Rattle.vital_agenda.specs.Driver.{AllRise, next_time};
 ghost use Rattle.vital_kernel.specs.Activations.{text_in};
@@ -8,8 +8,10 @@ ghost use Rattle.vital_kernel.specs.Cycles.{cycle_at, first_state, initial_run};
 ghost use Rattle.vital_kernel.specs.Kernels.{GoesOn, IsDriven, IsToCome, after_next, begun, begun_text, next_delta, next_text};
 ghost use Rattle.vital_kernel.specs.Lines.{run_lines};
 ghost use Rattle.vital_kernel.specs.Runs.{delta_at};
+ghost use Rattle.vital_kernel.specs.declared.run_error.RunError.TheVariants as run_error;
 ghost use Rattle.vital_report.specs.Lines.{text_of};
-ghost use Rattle.vital_report.specs.Reporters.{PrintsPart};
+ghost use Rattle.vital_report.specs.Reporters.{Prints, PrintsPart};
+ghost use Rattle.vital_report.specs.declared.print_error.PrintError.TheVariants as print_error;
 
 use crate::activation::{run_all, run_some};
 use crate::first::{first_signals, first_values};
@@ -22,7 +24,7 @@ use crate::stimuli::{first_time, hand_due, sooner, stimulus_drivers, up_to};
 use std::alloc::{AllocError, Global};
 use std::marker::Model;
 use vital_agenda::{Agenda, Due};
-use vital_base::{Sink, Time};
+use vital_base::{Sink, Time, WriteFault};
 use vital_report::{PrintError, Printer};
 use vital_signals::Signals;
 use vital_stim::StimLine;
@@ -120,17 +122,20 @@ impl<'a, A: Agenda> Kernel<'a, A> {
 
     /// Does the initial run, where it is still to come, or else the next cycle (IEEE 1076-1993, 12.6.4), and prints its lines. Where it
     /// answers Ok, all lines that were printed so far are written, and nothing is held. After a fault of the sink or want of memory a
-    /// prefix of the lines was printed, and the simulation is given up: no call may go on with it.
+    /// prefix of the lines was printed, and the simulation is given up: no call may go on with it. A printer that has stopped is such a fault,
+    /// and prints nothing.
     pub fn cycle<K: Sink>(&mut self, printer: &mut Printer<'_, K>) -> Result<(), CycleError>
         requires not_given_up { self.old.is_given_up ≡ false }
         requires to_come { IsToCome self.old }
         requires delta { self.old.state.delta < 2 ^ 32 - 1 }
-        requires goes_on { printer.old.stopped ≡ false }
         ensures after { OnOk result (self.new ≡ after_next self.old) }
         ensures prints { PrintsPart result (next_text self.old) printer.old printer.new }
         ensures holds_nothing { OnOk result (printer.new.held ≡ []) }
         ensures given_up { self.new.is_given_up ≡ is_err result }
+        ensures stopped_is_fault { printer.old.stopped ≡ true → result ≡ Err print_error.WriteFault }
+        ensures stopped_prints_nothing { printer.old.stopped ≡ true → printer.new ≡ printer.old }
     {
+        self.flush_before(printer)?;
         self.run_next(printer)
     }
 
@@ -138,7 +143,8 @@ impl<'a, A: Agenda> Kernel<'a, A> {
     /// least 1, and prints its lines: does the initial run where it is still to come, and then each cycle up to the end time. In a cycle
     /// only the drivers that are due, the signals that these drive, and the processes that are sensitive to a signal with an event are
     /// touched. At the limit it stands before the cycle that would pass it. After a fault of the sink or want of memory a prefix of the
-    /// lines was printed, and the simulation is given up: no call may go on with it.
+    /// lines was printed, and the simulation is given up: no call may go on with it. A printer that has stopped is such a fault, and prints
+    /// nothing.
     pub fn run_until<K: Sink>(
         &mut self,
         until: Time,
@@ -148,11 +154,43 @@ impl<'a, A: Agenda> Kernel<'a, A> {
         requires not_given_up { self.old.is_given_up ≡ false }
         requires until { until ≤ 2 ^ 60 }
         requires limit { 1 ≤ limit }
-        requires goes_on { printer.old.stopped ≡ false }
-        ensures { GoesOn result until limit self.old self.new printer.old printer.new }
+        ensures goes { GoesOn result until limit self.old self.new printer.old printer.new }
+        ensures stopped_is_fault { printer.old.stopped ≡ true → result ≡ Err run_error.WriteFault }
+        ensures stopped_prints_nothing { printer.old.stopped ≡ true → printer.new ≡ printer.old }
     {
+        self.flush_before(printer)?;
         self.begin(printer)?;
         self.run_cycles(until, limit, printer)
+    }
+
+    /// The time of the next cycle, in femtoseconds, if one is to come: the least one of a pending transaction of any driver. None is pending
+    /// before the present.
+    pub fn next_time(&self) -> Option<Time>
+        ensures next { result ≡ next_time self.now.state.drivers }
+        ensures rise { AllRise self.now.state.now self.now.state.drivers }
+    {
+        sooner(self.agenda.next_time(), first_time(self.left))
+    }
+
+    /// The present delta number.
+    pub fn delta(&self) -> u64
+        ensures { result ≡ self.now.state.delta }
+    {
+        self.delta
+    }
+
+    /// Writes what was held before, and marks where that failed, as it does where the printer has stopped.
+    fn flush_before<K: Sink>(&mut self, printer: &mut Printer<'_, K>) -> Result<(), WriteFault>
+        requires not_given_up { self.old.is_given_up ≡ false }
+        ensures same { OnOk result (self.new ≡ self.old) }
+        ensures prints { Prints result [] printer.old printer.new }
+        ensures given_up { self.new.is_given_up ≡ is_err result }
+        ensures stopped_is_fault { printer.old.stopped ≡ true → IsErr result }
+        ensures stopped_prints_nothing { printer.old.stopped ≡ true → printer.new ≡ printer.old }
+    {
+        let written = printer.flush();
+        self.is_given_up = written.is_err();
+        written
     }
 
     /// Does the initial run, where it is still to come.
@@ -260,14 +298,6 @@ impl<'a, A: Agenda> Kernel<'a, A> {
             &mut self.processes,
             printer,
         )
-    }
-
-    /// The time of the next cycle, if one is to come.
-    fn next_time(&self) -> Option<Time>
-        ensures next { result ≡ next_time self.now.state.drivers }
-        ensures rise { AllRise self.now.state.now self.now.state.drivers }
-    {
-        sooner(self.agenda.next_time(), first_time(self.left))
     }
 
     /// The delta number of the next cycle, which comes at a time.
