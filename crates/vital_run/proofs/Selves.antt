@@ -8,7 +8,7 @@ use Rattle.vital_report.specs.Reporters.{PrinterState}
 use Rattle.vital_report.specs.declared.line.Line.{Line}
 use Rattle.vital_answers.specs.Answer.{Answer}
 use Rattle.vital_answers.specs.Outcome.{Finishes, Gives, complete, reading_failed, writing_failed, memory_failed, PrintsAnswer, is_failure}
-use Rattle.vital_run.specs.Selves.{is_refusal, last_line, self_answer, tallied_answer, told_of_job}
+use Rattle.vital_run.specs.Selves.{last_line, repeats_last_line, self_answer, tallied_answer, told_of_job}
 use Rattle.vital_answers.specs.declared.status.Status.{Status}
 use Rattle.vital_answers.specs.declared.status.Status.TheVariants as status
 use Rattle.vital_run.proofs.Finishing.{gives}
@@ -22,7 +22,7 @@ gives_all inner s old new well (writing_failed same came) = absurd (let e : is_f
 gives_all inner s old new well (memory_failed same came) = absurd (let e : is_failure s ≡ true = ap is_failure same in cc)
 
 -- a job that is refused did not fail
-pub refused_well : (s : Status) → is_refusal s ≡ true → is_failure s ≡ false
+pub refused_well : (s : Status) → repeats_last_line s ≡ true → is_failure s ≡ false
 refused_well status.Done is = absurd cc
 refused_well status.ReadFault is = absurd cc
 refused_well status.WriteFault is = absurd cc
@@ -30,12 +30,12 @@ refused_well status.NoMemory is = absurd cc
 refused_well s is = refl
 
 -- what is told of a job that is refused
-pub told_refused : (run : SelfRun) (s : Status) (bytes : List ℕ) → is_refusal s ≡ true → told_of_job run s bytes ≡ last_line s bytes
+pub told_refused : (run : SelfRun) (s : Status) (bytes : List ℕ) → repeats_last_line s ≡ true → told_of_job run s bytes ≡ last_line s bytes
 told_refused run status.Done bytes is = absurd cc
 told_refused run s bytes is = refl
 
 -- a status that is none of the others is that of a refusal
-pub is_refused : (s : Status) → (s ≡ status.Done → ⊥) → (s ≡ status.ReadFault → ⊥) → (s ≡ status.WriteFault → ⊥) → (s ≡ status.NoMemory → ⊥) → is_refusal s ≡ true
+pub is_refused : (s : Status) → (s ≡ status.Done → ⊥) → (s ≡ status.ReadFault → ⊥) → (s ≡ status.WriteFault → ⊥) → (s ≡ status.NoMemory → ⊥) → repeats_last_line s ≡ true
 is_refused status.Done done read write memory = absurd (done refl)
 is_refused status.ReadFault done read write memory = absurd (read refl)
 is_refused status.WriteFault done read write memory = absurd (write refl)
@@ -50,7 +50,7 @@ done_told run inner first tally none gave =
     ap (λ (s : Status). told_of_job run s inner.bytes) (sym all.0) ∙ ap (λ (t : Tally). tallied_answer run (count t inner.bytes)) (sym none) ∙ ap (tallied_answer run) (sym same)
 
 -- where it was refused its last line is told, whatever the sink that it ran over
-pub refusal_told : (run : SelfRun) (inner : Answer) (s : Status) (old new : Told) → is_refusal s ≡ true → Gives inner s old new → self_answer run inner ≡ last_line s inner.bytes
+pub refusal_told : (run : SelfRun) (inner : Answer) (s : Status) (old new : Told) → repeats_last_line s ≡ true → Gives inner s old new → self_answer run inner ≡ last_line s inner.bytes
 refusal_told run inner s old new is gave =
     let all = gives_all inner s old new (refused_well s is) gave in
     ap (λ (t : Status). told_of_job run t inner.bytes) (sym all.0) ∙ told_refused run s inner.bytes is

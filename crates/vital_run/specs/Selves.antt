@@ -81,10 +81,10 @@ told_of_job run refused_so bytes = last_line refused_so bytes
 abbrev pub self_answer : SelfRun' → Answer → Answer
 self_answer run inner = told_of_job run inner.status inner.bytes
 
--- Is it the status of a job that was refused?
-abbrev pub is_refusal : Status → Bool
-is_refusal Done = false
-is_refusal ReadFault = false
-is_refusal WriteFault = false
-is_refusal NoMemory = false
-is_refusal other = true
+-- Is the last line printed again where a job ended with this status? It is where it didn't end well, and neither a device nor memory failed.
+abbrev pub repeats_last_line : Status → Bool
+repeats_last_line Done = false
+repeats_last_line ReadFault = false
+repeats_last_line WriteFault = false
+repeats_last_line NoMemory = false
+repeats_last_line other = true

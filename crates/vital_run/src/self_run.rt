@@ -6,7 +6,7 @@ ghost use Rattle.vital_report.specs.Lines.{said, text_of};
 ghost use Rattle.vital_report.specs.Reporters.{Prints};
 ghost use Rattle.vital_answers.specs.Answer.{Answer};
 ghost use Rattle.vital_answers.specs.Outcome.{Gives, Stage};
-ghost use Rattle.vital_run.specs.Selves.{is_refusal, last_line, last_text, named, self_job, self_sources, tallied_answer};
+ghost use Rattle.vital_run.specs.Selves.{last_line, last_text, named, repeats_last_line, self_job, self_sources, tallied_answer};
 ghost use Rattle.vital_run.specs.Stages.{IsDrawnAnswer, IsLoadedAnswer, IsSelfAnswer};
 ghost use Rattle.vital_words.specs.Given.{IsBounded, NamesIn};
 
@@ -188,7 +188,7 @@ fn print_refusal<K: Sink>(
     requires count { length sources.now ≡ length job.now.files }
     requires names_in { NamesIn job.now }
     requires bounded { IsBounded job.now }
-    requires refused { is_refusal refused_so ≡ true }
+    requires refused { repeats_last_line refused_so ≡ true }
     requires goes_on { printer.old.stopped ≡ false }
     ensures { Stage (λ answer. (inner : Answer) × IsLoadedAnswer job.now (Ok sources.now) inner × (answer ≡ last_line refused_so inner.bytes))
         result printer.old printer.new }
