@@ -1,12 +1,17 @@
 //! Goes over the worked rows of the whole program. The words of a row are those of a run over devices in memory; behind `opened` they are those of a
-//! run whose opened files are shown, and behind `job` those that are read into a job.
+//! run whose opened files are shown, and behind `job` those that are read into a job. `parts` runs stimuli part by part.
 #![tactic(auto)]
 
 mod noted_shelf;
+mod noted_sink;
+mod other_devices;
+mod parts;
 mod program;
 mod views;
 
-use self::program::{answer_of_run, opened_by_run, words_of};
+use self::other_devices::answer_of_run;
+use self::parts::parts_of_run;
+use self::program::{opened_by_run, words_of};
 use self::views::view;
 use std::alloc::{AllocError, Global};
 use std::fs;
@@ -25,9 +30,13 @@ impl Answers for WorkedRows {
         row: &Row,
     ) -> Result<Answer, AllocError> {
         if let [first, others @ ..] = words {
-            if first.as_str() == "opened" {
-                let words = words_of(alloc, others, files)?;
-                return opened_by_run(alloc, &words, files, row);
+            match first.as_str() {
+                "opened" => {
+                    let words = words_of(alloc, others, files)?;
+                    return opened_by_run(alloc, &words, files, row);
+                }
+                "parts" => return parts_of_run(alloc, files, row),
+                _ => {}
             }
         }
         let words = words_of(alloc, words, files)?;

@@ -1,13 +1,14 @@
 //! A run of the program over devices in memory.
 
 use super::noted_shelf::NotedShelf;
+use super::noted_sink::NotedSink;
 use std::alloc::{AllocError, Global};
 use vital_base::{Bytes, List, MemFile, MemShelf, MemSink, Name, Word};
 use vital_row_files::{Answer, Device, GivenFile, Row};
 use vital_run::run;
 
-/// How many bytes a call of a device moves where the row says nothing of it.
-const PIECE: u32 = 65_536;
+/// How many bytes a call of a device moves where nothing is said of it.
+pub const PIECE: u32 = 65_536;
 
 /// The words of a row, and behind them the lines of its file `words`, if it has one.
 pub fn words_of(
@@ -63,32 +64,50 @@ fn fails_of(alloc: Global, device: &Option<Device>) -> Result<List<u32>, AllocEr
     }
 }
 
-/// The shelf of a row: its files, in memory.
-fn shelf_of(alloc: Global, files: &[GivenFile], row: &Row) -> Result<MemShelf, AllocError> {
+/// A shelf of the files of a row, in memory.
+fn shelf_of(
+    alloc: Global,
+    files: &[GivenFile],
+    device: &Option<Device>,
+) -> Result<MemShelf, AllocError> {
     let files = files_of(alloc, files)?;
-    let piece = piece_of(&row.shelf).max(1);
-    Ok(MemShelf::new(files, piece, fails_of(alloc, &row.shelf)?))
+    let piece = piece_of(device).max(1);
+    Ok(MemShelf::new(files, piece, fails_of(alloc, device)?))
 }
 
-/// The sink of a row, in memory.
-fn sink_of(alloc: Global, row: &Row) -> Result<MemSink, AllocError> {
-    let fails = fails_of(alloc, &row.sink)?;
-    Ok(MemSink::new(alloc, piece_of(&row.sink), fails))
+/// A sink in memory.
+pub fn sink_of(alloc: Global, device: &Option<Device>) -> Result<MemSink, AllocError> {
+    let fails = fails_of(alloc, device)?;
+    Ok(MemSink::new(alloc, piece_of(device), fails))
 }
 
-/// What the program writes, and its status, where these are its words and its files.
-pub fn answer_of_run(
+/// What a run wrote, its status, and for each of its writes how many bytes there were before it.
+#[derive(Drop)]
+pub struct Ran {
+    pub bytes: Vec<u8>,
+    pub status: u8,
+    pub starts: Vec<usize>,
+}
+
+/// Runs the program with these words and these files over a shelf and a sink that behave so.
+pub fn run_over(
     alloc: Global,
     words: &Vec<Word>,
     files: &[GivenFile],
-    row: &Row,
-) -> Result<Answer, AllocError> {
-    let mut shelf = shelf_of(alloc, files, row)?;
-    let mut sink = sink_of(alloc, row)?;
-    let status = run(alloc, words, &mut shelf, &mut sink);
-    Ok(Answer {
+    shelf: &Option<Device>,
+    sink: &Option<Device>,
+) -> Result<Ran, AllocError> {
+    let mut shelf = shelf_of(alloc, files, shelf)?;
+    let mut noted = NotedSink {
+        sink: sink_of(alloc, sink)?,
+        starts: Vec::new(alloc),
+    };
+    let status = run(alloc, words, &mut shelf, &mut noted);
+    let NotedSink { sink, starts } = noted;
+    Ok(Ran {
         bytes: Vec::from_slice(alloc, sink.bytes())?,
         status: status.number(),
+        starts,
     })
 }
 
@@ -100,11 +119,11 @@ pub fn opened_by_run(
     row: &Row,
 ) -> Result<Answer, AllocError> {
     let mut shelf = NotedShelf {
-        shelf: shelf_of(alloc, files, row)?,
+        shelf: shelf_of(alloc, files, &row.shelf)?,
         alloc,
         names: Vec::new(alloc),
     };
-    let mut sink = sink_of(alloc, row)?;
+    let mut sink = sink_of(alloc, &row.sink)?;
     let status = run(alloc, words, &mut shelf, &mut sink);
     let mut bytes = Vec::new(alloc);
     for name in shelf.names.as_slice() {
